@@ -1,23 +1,8 @@
 -- A subscription that is added leaves parts that agree with each other.
-use Rattle.std.proofs.Common.{◌≡◌, ◌∙◌, ap, sym, subst, refl, ℕ, suc, ◌+◌, ◌^◌, ◌<◌, ◌≤◌, Bool, true, false, ◌||◌, nat_le, [], ◌∷◌, ◌++◌, length, Option, None, Some, is_some, arith}
-use Rattle.std.specs.Prelude.{if◌then◌else◌}
-use Rattle.std.proofs.lemmas.Bool.{false_from_ne_true, leb-true}
-use Rattle.std.proofs.lemmas.List.{length-append}
-use Rattle.stream_ident.specs.declared.limits.TheConstants.{MOST_SUBS}
-use Rattle.stream_ident.specs.declared.ident.GrainId.{GrainId}
-use Rattle.stream_ident.specs.declared.ident.StreamId.{StreamId}
-use Rattle.stream_ident.specs.declared.ident.SubName.{SubName}
+use Rattle.step_core.proofs.Prelude.{PlainRegistry, add_with, is_full, next_number, registered, with_name, Registration, Added, ◌≡◌, ◌∙◌, ap, sym, subst, refl, ℕ, suc, ◌+◌, ◌^◌, ◌<◌, ◌≤◌, Bool, true, false, ◌||◌, nat_le, [], ◌∷◌, ◌++◌, length, Option, None, Some, arith, false_from_ne_true, leb-true, length-append, if◌then◌else◌, GrainId, StreamId, SubName, MOST_SUBS, Token, Reply, takes_memory, PlainPartition, AreRecords, PlainTable, subscribe, subscribed}
+use Rattle.std.proofs.Common.{is_some}
 use Rattle.stream_ident.specs.declared.ident.SubName.TheVariants as name
-use Rattle.stream_ident.specs.declared.token.Token.{Token}
-use Rattle.stream_model.specs.declared.plain.PlainPartition.{PlainPartition}
-use Rattle.stream_model.specs.Replies.{Reply}
 use Rattle.stream_model.specs.Publishing as plain
-use Rattle.stream_model.specs.Step.{takes_memory}
-use Rattle.pubsub_registry.specs.declared.registration.Registration.{Registration}
-use Rattle.pubsub_registry.specs.declared.told.Added.{Added}
-use Rattle.pubsub_registry.specs.Registry.{PlainRegistry, add_with, is_full, next_number, registered, with_name}
-use Rattle.subscription_table.specs.Standing.{AreRecords}
-use Rattle.subscription_table.specs.Table.{PlainTable, subscribe, subscribed}
 use Rattle.step_core.specs.Assembly.{Agrees, IsAssembled}
 use Rattle.step_core.specs.PlainOf.{plain_of}
 use Rattle.step_core.specs.SubscriberReplies.{of_added}

@@ -1,19 +1,9 @@
 -- What agents ask of one record, done by the parts.
-use Rattle.std.proofs.Common.{◌≡◌, ap, refl, ℕ, Bool, true, false, not, List, [], ◌∷◌, length, get_or, set, Some, ◌==◌}
-use Rattle.std.specs.Prelude.{if◌then◌else◌}
-use Rattle.stream_ident.specs.declared.ident.SubName.{SubName}
-use Rattle.stream_ident.specs.declared.token.Token.{Token}
-use Rattle.stream_ident.specs.SubName.{same_sub}
-use Rattle.stream_ident.specs.Words.{place_of}
-use Rattle.stream_model.specs.declared.plain.PlainPartition.{PlainPartition}
-use Rattle.stream_model.specs.Replies.{Reply}
+use Rattle.step_core.proofs.Prelude.{rewound, SubState, Registration, ack_at, handled_at, retry, ◌≡◌, ap, refl, ℕ, Bool, true, false, not, List, [], ◌∷◌, length, get_or, set, Some, ◌==◌, if◌then◌else◌, same_sub, place_of, SubName, Token, with_sub, Reply, PlainPartition}
 use Rattle.stream_model.specs.declared.reply.Reply.TheVariants as reply
-use Rattle.stream_model.specs.Positions.{with_sub}
 use Rattle.stream_model.specs.Pulling as plain
-use Rattle.consumer_grain.specs.Subscriptions.{acknowledged, rewound}
-use Rattle.consumer_grain.specs.declared.sub_state.SubState.{SubState}
-use Rattle.pubsub_registry.specs.declared.registration.Registration.{Registration}
-use Rattle.pulling_agent.specs.Progress.{ack, ack_at, handled_at, retry}
+use Rattle.consumer_grain.specs.Subscriptions.{acknowledged}
+use Rattle.pulling_agent.specs.Progress.{ack}
 use Rattle.pulling_agent.specs.declared.told.Acked.TheVariants as ack_told
 use Rattle.pulling_agent.specs.declared.told.Retried.TheVariants as retry_told
 use Rattle.step_core.specs.declared.parts.Parts.{Parts}

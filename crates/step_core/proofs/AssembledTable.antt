@@ -1,12 +1,12 @@
 -- Parts agree with each other after what leaves the numbers of the names as they are.
-use Rattle.std.proofs.Common.{◌≡◌, ◌∙◌, sym, subst, length}
-use Rattle.std.specs.List.{AllByRecursion}
-use Rattle.stream_ident.specs.declared.ident.GrainId.{GrainId}
-use Rattle.consumer_grain.specs.Activations.{PlainActivation}
-use Rattle.subscription_table.specs.Table.{PlainTable}
-use Rattle.step_core.specs.Assembly.{IsAssembled}
+use Rattle.step_core.proofs.Prelude.{PlainActivation, AreDistinct, AreUnique, ◌≡◌, ◌∙◌, sym, subst, length, List, [], ◌∷◌, AllByRecursion, AllocError, Performs, GrainId, within-after, reached-after, reached-leads, IsWithinLimits, Entry, Reply, Leads, Op, PlainPartition, AreRecords, PlainTable}
+use Rattle.std.proofs.Common.{Result}
+use Rattle.stream_model.specs.Step.{step}
+use Rattle.stream_model.proofs.StepBounds.{bounds-step}
+use Rattle.step_core.specs.Assembly.{Agrees, IsAssembled}
 use Rattle.step_core.specs.Known.{AreKnown}
 use Rattle.step_core.specs.Numbers.{IsBelow}
+use Rattle.step_core.specs.PlainOf.{plain_of}
 use Rattle.step_core.specs.declared.parts.Parts.{Parts}
 
 -- as many names and as much room as before
@@ -25,3 +25,31 @@ assembled-subs parts subs large known assembled =
       numbered = subst (λ n. AllByRecursion (λ (g : GrainId × PlainActivation). IsBelow n g.1) parts.grains) (sym large.names) assembled.numbered;
       known = known;
     }
+
+-- what operations leave agrees, where it is assembled and the tables are as they promise of themselves
+module _ (old new : Parts) (agrees : Agrees old) (assembled : IsAssembled new) (unique : AreUnique new.subs.registry.names) (records : AreRecords new.subs) (distinct : AreDistinct new.grains) where
+  pub agrees-after : (op : Op) (reply : Result Reply AllocError) → Performs (plain_of old) (plain_of new) reply (step (plain_of old) op) → Agrees new
+  agrees-after op reply performs =
+      record {
+        assembled = assembled;
+        within = within-after (plain_of old) (plain_of new) reply (step (plain_of old) op) performs agrees.within (bounds-step (plain_of old) op agrees.within);
+        reached = reached-after (plain_of old) (plain_of new) op reply performs agrees.reached;
+        unique = unique;
+        records = records;
+        distinct = distinct;
+      }
+
+  within-leads : (p : PlainPartition) (entries : List Entry) → Leads p entries (plain_of new) → IsWithinLimits p → IsWithinLimits (plain_of new)
+  within-leads p [] leads within = subst IsWithinLimits (sym leads) within
+  within-leads p (e ∷ entries) leads within = within-leads (step p e.op).0 entries leads.1 (bounds-step p e.op within)
+
+  pub agrees-led : (entries : List Entry) × Leads (plain_of old) entries (plain_of new) → Agrees new
+  agrees-led led =
+      record {
+        assembled = assembled;
+        within = within-leads (plain_of old) led.0 led.1 agrees.within;
+        reached = reached-leads (plain_of old) led.0 (plain_of new) agrees.reached led.1;
+        unique = unique;
+        records = records;
+        distinct = distinct;
+      }

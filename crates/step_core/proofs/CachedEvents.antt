@@ -1,8 +1,5 @@
 -- The events of the log at the positions of the cache, where the log grows and where the cache begins anew.
-use Rattle.std.proofs.Common.{◌≡◌, ◌∙◌, ap, ℕ, ◌+◌, ◌-◌, ◌≤◌, List, ◌++◌, length, take, drop, arith}
-use Rattle.std.proofs.lemmas.List.{drop-append-le, drop-drop, drop-take, length-drop, take-append-le}
-use Rattle.stream_ident.specs.declared.event.Event.{Event}
-use Rattle.stream_model.specs.Positions.{between}
+use Rattle.step_core.proofs.Prelude.{◌≡◌, ◌∙◌, ap, ℕ, ◌+◌, ◌-◌, ◌≤◌, List, ◌++◌, length, take, drop, arith, drop-append-le, drop-drop, drop-take, length-drop, take-append-le, Event, between}
 
 -- a longer log has the same events at the positions before
 pub between-longer : (log more : List Event) (from to : ℕ) → from ≤ to → to ≤ length log → between (log ++ more) from to ≡ between log from to

@@ -1,24 +1,5 @@
 -- What is done for a subscription at once, and what that makes of the partition.
-use Rattle.std.proofs.Common.{◌≡◌, ◌∙◌, ap, ap₂, sym, subst, refl, ℕ, suc, ◌+◌, ◌<◌, ◌≤◌, max, Bool, true, false, List, [], ◌∷◌, length, Option, Some, None, arith}
-use Rattle.std.proofs.lemmas.Bool.{le-ltb}
-use Rattle.std.proofs.lemmas.List.{get_or-set_same, set-set}
-use Rattle.std.specs.Option.{option_map}
-use Rattle.stream_ident.specs.declared.ident.SubName.{SubName}
-use Rattle.stream_ident.specs.Name.{same_grain}
-use Rattle.stream_ident.specs.Words.{past, value_at}
-use Rattle.stream_model.specs.declared.plain.PlainPartition.{PlainPartition}
-use Rattle.stream_model.specs.declared.plain.Subscription.{Subscription}
-use Rattle.stream_model.specs.Bounds.{IsWithinLimits}
-use Rattle.stream_model.specs.Draining.{next_note}
-use Rattle.stream_model.specs.History.{Entry}
-use Rattle.stream_model.specs.Positions.{is_spent, sub_at, with_sub}
-use Rattle.stream_model.specs.Step.{step, IsReached, Leads}
-use Rattle.stream_model.proofs.Reaching.{reached-leads}
-use Rattle.stream_model.proofs.StepBounds.{bounds-step}
-use Rattle.consumer_grain.specs.Subscriptions.{advanced, caught_up, committed}
-use Rattle.consumer_grain.specs.declared.sub_state.SubState.{SubState}
-use Rattle.queue_cache.specs.Cache.{high}
-use Rattle.subscription_table.specs.Table.{PlainTable, name_at, no_entry, no_state, state_at, with_state}
+use Rattle.step_core.proofs.Prelude.{advanced, caught_up, committed, SubState, high, ◌≡◌, ◌∙◌, ap, ap₂, sym, subst, refl, ℕ, suc, ◌+◌, ◌<◌, ◌≤◌, max, Bool, true, false, List, [], ◌∷◌, length, Option, Some, None, arith, le-ltb, get_or-set_same, set-set, option_map, same_grain, past, value_at, SubName, next_note, Entry, is_spent, sub_at, with_sub, Leads, PlainPartition, Subscription, PlainTable, name_at, no_entry, no_state, state_at, with_state}
 use Rattle.pulling_agent.specs.declared.told.Sought.TheVariants as sought
 use Rattle.step_core.specs.declared.parts.Parts.{Parts}
 use Rattle.step_core.specs.DrainPhases.{Ends}
@@ -26,6 +7,7 @@ use Rattle.step_core.specs.PlainOf.{plain_of}
 use Rattle.step_core.specs.Records.{record_of}
 use Rattle.step_core.specs.Serving.{is_held, name_of, resting_grain, serve_up_to, turned, CatchesUp, HandlesNext, IsCaughtUp, IsFresh, IsHandledOnce}
 use Rattle.step_core.specs.Assembly.{Agrees, IsAssembled}
+use Rattle.step_core.proofs.AssembledTable.{assembled-subs}
 use Rattle.step_core.proofs.HandOps.{Searched, Stands, named, sought-next, with_subs}
 use Rattle.step_core.proofs.KnownOps.{known-state}
 use Rattle.step_core.proofs.NamesOps.{name_of-same, record-of-number}
@@ -64,16 +46,9 @@ caught-up parts t number stands free reach searched =
 pub caught-assembled : (parts : Parts) (t : PlainTable) (number : ℕ) → Stands parts number → Searched parts t number false sought.Nothing → IsAssembled (with_subs parts t)
 caught-assembled parts t number stands searched =
     subst (λ (t : PlainTable). IsAssembled (with_subs parts t)) (sym searched.0)
-    (record {
-      most_subs = stands.agrees.assembled.most_subs;
-      most_rules = stands.agrees.assembled.most_rules;
-      most_events = stands.agrees.assembled.most_events;
-      cached = stands.agrees.assembled.cached;
-      numbered = stands.agrees.assembled.numbered;
-      known =
-          known-state parts.subs.registry.names parts.subs.states parts.grains number (caught_up (high parts.agent.cache) false (state_at parts.subs number)) stands.agrees.assembled.known (omega (arith, stands.within, stands.agrees.records.long)) (λ is_open. is_open)
-          (λ at none unheld. (refl, none));
-    })
+    (assembled-subs parts (with_state parts.subs number (caught_up (high parts.agent.cache) false (state_at parts.subs number))) (record { names = refl; most_names = refl; most_rules = refl })
+    (known-state parts.subs.registry.names parts.subs.states parts.grains number (caught_up (high parts.agent.cache) false (state_at parts.subs number)) stands.agrees.assembled.known (omega (arith, stands.within, stands.agrees.records.long)) (λ is_open. is_open)
+    (λ at none unheld. (refl, none))) stands.agrees.assembled)
 
 -- ---- the next event handled
 
@@ -81,15 +56,16 @@ caught-assembled parts t number stands searched =
 abbrev turned_state : ℕ → ℕ → SubState → SubState
 turned_state position note state = advanced position (committed (position ∷ []) note state)
 
-pub state-turned : (t t1 t2 : PlainTable) (number position note : ℕ) → number < length t.states → t1 ≡ with_state t number (committed (position ∷ []) note (state_at t number))
-    → t2 ≡ with_state t1 number (advanced position (state_at t1 number)) → t2 ≡ with_state t number (turned_state position note (state_at t number))
-state-turned t t1 t2 number position note within first second =
-    let state = committed (position ∷ []) note (state_at t number) in
-    let written : state_at t1 number ≡ state = ap (λ (t : PlainTable). state_at t number) first ∙ get_or-set_same t.states number state no_state within in
+pub state-turned : (parts : Parts) (t1 t2 : PlainTable) (number position note : ℕ) (positions : List ℕ) → Stands parts number → positions ≡ position ∷ [] → t1 ≡ with_state parts.subs number (committed positions note (state_at parts.subs number))
+    → t2 ≡ with_state t1 number (advanced position (state_at t1 number)) → t2 ≡ with_state parts.subs number (turned_state position note (state_at parts.subs number))
+state-turned parts t1 t2 number position note positions stands is first second =
+    let state = committed (position ∷ []) note (state_at parts.subs number) in
+    let one : t1 ≡ with_state parts.subs number state = first ∙ ap (λ (positions : List ℕ). with_state parts.subs number (committed positions note (state_at parts.subs number))) is in
+    let written : state_at t1 number ≡ state = ap (λ (t : PlainTable). state_at t number) one ∙ get_or-set_same parts.subs.states number state no_state (omega (arith, stands.within, stands.agrees.records.long)) in
     second
     ∙ ap (λ (s : SubState). with_state t1 number (advanced position s)) written
-    ∙ ap (λ (x : PlainTable). with_state x number (advanced position state)) first
-    ∙ ap (λ (states : List SubState). record t { states = states }) (set-set t.states number state (advanced position state))
+    ∙ ap (λ (x : PlainTable). with_state x number (advanced position state)) one
+    ∙ ap (λ (states : List SubState). record parts.subs { states = states }) (set-set parts.subs.states number state (advanced position state))
 
 abbrev pub turned_parts : Parts → PlainTable → Parts
 turned_parts parts t = record parts { subs = t; rises = parts.rises + 1; turns = parts.turns + 1 }
@@ -139,32 +115,17 @@ handled-assembled parts t number position note stands some is =
           (λ at none unheld. let zero_past : past (state_at parts.subs number).handled ≡ 0 = ap past none in absurd (omega (arith, some, zero_past)));
     })
 
--- ---- what stands for the partition after it
+-- ---- what leads to the partition after it
 
-pub leads-within : (p q : PlainPartition) (entries : List Entry) → Leads p entries q → IsWithinLimits p → IsWithinLimits q
-leads-within p q [] leads within = subst IsWithinLimits (sym leads) within
-leads-within p q (e ∷ entries) leads within = leads-within (step p e.op).0 q entries leads.1 (bounds-step p e.op within)
+pub caught-leads : (old new : PlainPartition) (s : SubName) (b : Bool) → CatchesUp old new s b → (entries : List Entry) × Leads old entries new
+caught-leads old new s true caught = ((serve_up_to 0 s caught.record_of.grain old).entries, (caught.served 0 caught.record_of.grain).2)
+caught-leads old new s false unchanged = ([], unchanged)
 
-pub caught-within : (old new : PlainPartition) (s : SubName) (b : Bool) → CatchesUp old new s b → IsWithinLimits old → IsWithinLimits new
-caught-within old new s true caught within = leads-within old new (serve_up_to 0 s caught.record_of.grain old).entries (caught.served 0 caught.record_of.grain).2 within
-caught-within old new s false unchanged within = subst IsWithinLimits (sym unchanged) within
-
-pub caught-reached : (old new : PlainPartition) (s : SubName) (b : Bool) → CatchesUp old new s b → IsReached old → IsReached new
-caught-reached old new s true caught reached = reached-leads old (serve_up_to 0 s caught.record_of.grain old).entries new reached (caught.served 0 caught.record_of.grain).2
-caught-reached old new s false unchanged reached = subst IsReached (sym unchanged) reached
-
-handled-leads : (old new : PlainPartition) (s : SubName) → IsHandledOnce old new s → (entries : List Entry) × Leads old entries new
-handled-leads old new s handled =
+pub handled-leads : (old new : PlainPartition) (s : SubName) (b : Bool) → HandlesNext old new s b → (entries : List Entry) × Leads old entries new
+handled-leads old new s true handled =
     let leads = turn-leads old s handled.record_of handled.position handled.activation handled.can in
     (leads.0, subst (λ (q : PlainPartition). Leads old leads.0 q) (sym handled.is) leads.1)
-
-pub handled-within : (old new : PlainPartition) (s : SubName) (b : Bool) → HandlesNext old new s b → IsWithinLimits old → IsWithinLimits new
-handled-within old new s true handled within = let leads = handled-leads old new s handled in leads-within old new leads.0 leads.1 within
-handled-within old new s false unchanged within = subst IsWithinLimits (sym unchanged) within
-
-pub handled-reached : (old new : PlainPartition) (s : SubName) (b : Bool) → HandlesNext old new s b → IsReached old → IsReached new
-handled-reached old new s true handled reached = let leads = handled-leads old new s handled in reached-leads old leads.0 new reached leads.1
-handled-reached old new s false unchanged reached = subst IsReached (sym unchanged) reached
+handled-leads old new s false unchanged = ([], unchanged)
 
 -- ---- names by number, of the parts and of the plain partition
 

@@ -1,32 +1,18 @@
 -- Subscriptions that are caught up one after another.
-use Rattle.std.proofs.Common.{◌≡◌, ◌∙◌, ap, sym, subst, refl, ℕ, zero, suc, ◌<◌, ◌≤◌, max, true, false, length, get_or, Option, Some, None, arith}
-use Rattle.std.specs.Prelude.{IfSome, MatchOption}
-use Rattle.stream_ident.specs.declared.ident.SubName.{SubName}
-use Rattle.stream_ident.specs.SubName.{sub_lt}
-use Rattle.stream_ident.specs.Words.{above, keys_where, past}
-use Rattle.stream_model.specs.declared.plain.PlainPartition.{PlainPartition}
-use Rattle.stream_model.specs.Draining.{open_names, serve}
-use Rattle.stream_model.specs.Looks.{is_due}
-use Rattle.stream_model.specs.Positions.{sub_at}
-use Rattle.stream_model.specs.Step.{IsReached}
-use Rattle.consumer_grain.specs.Subscriptions.{caught_up}
-use Rattle.grain_table.specs.Grains.{AreIdle}
-use Rattle.pubsub_registry.specs.Index.{AreUnique}
-use Rattle.pubsub_registry.specs.Registry.{PlainRegistry}
+use Rattle.step_core.proofs.Prelude.{caught_up, AreIdle, AreUnique, PlainRegistry, PlainCache, high, ◌≡◌, ◌∙◌, ap, sym, subst, refl, ℕ, zero, suc, ◌<◌, ◌≤◌, max, true, false, length, get_or, Option, Some, None, arith, option_map, IfSome, MatchOption, sub_lt, above, keys_where, past, SubName, Explicit, reached-leads, open_names, is_due, sub_at, IsReached, PlainPartition, AreRecords, PlainTable, name_at, no_entry, state_at}
+use Rattle.stream_model.specs.Draining.{serve}
 use Rattle.pulling_agent.specs.declared.told.Sought.TheVariants as sought
-use Rattle.queue_cache.specs.Cache.{PlainCache, high}
 use Rattle.subscription_table.specs.Idle as table
 use Rattle.subscription_table.specs.Idle.{IsNextDue}
-use Rattle.subscription_table.specs.Standing.{AreRecords}
-use Rattle.subscription_table.specs.Table.{PlainTable, name_at, no_entry, state_at, with_state}
 use Rattle.subscription_table.proofs.StateLemmas.{fits-caught_up}
 use Rattle.subscription_table.proofs.TableLemmas.{Fits, records-with}
 use Rattle.step_core.specs.declared.parts.Parts.{Parts}
 use Rattle.step_core.specs.Assembly.{Agrees}
 use Rattle.step_core.specs.DrainPhases.{Ends}
 use Rattle.step_core.specs.PlainOf.{plain_of}
-use Rattle.step_core.specs.Serving.{names_of, next_due, CatchUp, CatchesUpFrom, IsCaughtUp}
-use Rattle.step_core.proofs.CatchOps.{caught-assembled, caught-reached, caught-up, caught-within}
+use Rattle.step_core.specs.Serving.{name_of, names_of, next_due, CatchUp, CatchesUpFrom, IsCaughtUp}
+use Rattle.step_core.proofs.AssembledTable.{agrees-led}
+use Rattle.step_core.proofs.CatchOps.{caught-assembled, caught-leads, caught-up}
 use Rattle.step_core.proofs.DueNames.{due-past, fewer-left, goes-on, GoesOn}
 use Rattle.step_core.proofs.HandOps.{Searched, Stands, held-idle, high-few, with_subs}
 use Rattle.step_core.proofs.KeptNames.{served-names}
@@ -53,15 +39,12 @@ one-caught parts t number agrees idle catches =
     let registry : t.registry ≡ parts.subs.registry = ap (λ (t : PlainTable). t.registry) catches.is in
     let fits : Fits state state = record { start = refl; openness = refl; cursor = agrees.records.cursors number there; resume = agrees.records.resumes number there } in
     record {
-      agrees = record {
-        assembled = caught-assembled parts t number stands searched;
-        within = caught-within (plain_of parts) (plain_of (with_subs parts t)) (name_at parts.subs number) true caught agrees.within;
-        reached = caught-reached (plain_of parts) (plain_of (with_subs parts t)) (name_at parts.subs number) true caught agrees.reached;
-        unique = subst (λ (r : PlainRegistry). AreUnique r.names) (sym registry) agrees.unique;
-        records = subst AreRecords (sym catches.is)
-            (records-with parts.subs agrees.records number catches.within (caught_up (high parts.agent.cache) false state) (fits-caught_up state fits (high parts.agent.cache) false (omega (arith, high-few parts agrees))));
-        distinct = agrees.distinct;
-      };
+      agrees =
+          agrees-led parts (with_subs parts t) agrees (caught-assembled parts t number stands searched)
+          (subst (λ (r : PlainRegistry). AreUnique r.names) (sym registry) agrees.unique)
+          (subst AreRecords (sym catches.is)
+          (records-with parts.subs agrees.records number catches.within (caught_up (high parts.agent.cache) false state) (fits-caught_up state fits (high parts.agent.cache) false (omega (arith, high-few parts agrees)))))
+          agrees.distinct (caught-leads (plain_of parts) (plain_of (with_subs parts t)) (name_at parts.subs number) true caught);
       registry = registry;
       caught = caught;
     }
@@ -152,7 +135,7 @@ one-past : (start here new : PlainPartition) (last : Option SubName) (d : SubNam
 one-past start here new last d reached before next caught =
     let served : Ends here new (Some None) (serve d here (sub_at here d)) = serves-caught-up here new d caught in
     record {
-      reached = caught-reached here new d true caught reached;
+      reached = let led = caught-leads here new d true caught in reached-leads here led.0 new reached led.1;
       names = served-names here new d served;
       goes = goes-on start here new last d reached before next served;
       fewer = fewer-left start here last d reached before next;
@@ -170,3 +153,33 @@ run-past start here new last first (suc more) final reached before next (mid, (d
       goes = one.goes;
       fewer = omega (arith, one.fewer, rest.fewer);
     }
+
+-- and so on from the last of them, by its number
+pub record GoesOnFrom (start new : PlainPartition) (last : Option SubName) (number : ℕ) : Type 0 where
+  pub goes : GoesOn start new (Some (name_of new number))
+  pub fewer : length (above sub_lt (Some (name_of new number)) (open_names start)) < length (above sub_lt last (open_names start))
+
+module _ (start here new : PlainPartition) (last found : Option ℕ) (number : ℕ) (reached : IsReached here) (before : GoesOn start here (option_map (name_of here) last)) (is : found ≡ Some number)
+    (due : option_map (name_of here) found ≡ next_due here (option_map (name_of here) last)) where
+  pub next-named : Some (name_of here number) ≡ next_due here (option_map (name_of here) last)
+  next-named = sym (ap (option_map (name_of here)) is) ∙ due
+
+  pub served-from : (stood : PlainPartition) → stood ≡ here → Ends stood new (Some None) (serve (name_of stood number) stood (sub_at stood (name_of stood number))) → GoesOnFrom start new (option_map (name_of here) last) number
+  served-from stood same ends =
+      let d = name_of here number in
+      let served : Ends here new (Some None) (serve d here (sub_at here d)) = subst (λ (p : PlainPartition). Ends p new (Some None) (serve (name_of p number) p (sub_at p (name_of p number)))) same ends in
+      let name : name_of new number ≡ d = ap (λ names. get_or names number (Explicit 0)) (served-names here new d served) in
+      record {
+        goes = subst (λ (s : SubName). GoesOn start new (Some s)) (sym name) (goes-on start here new (option_map (name_of here) last) d reached before next-named served);
+        fewer = subst (λ (s : SubName). length (above sub_lt (Some s) (open_names start)) < length (above sub_lt (option_map (name_of here) last) (open_names start))) (sym name)
+            (fewer-left start here (option_map (name_of here) last) d reached before next-named);
+      }
+
+  pub caught-from : (end : ℕ) → CatchesUpFrom (name_of here) here new number (Some end) → GoesOnFrom start new (option_map (name_of here) last) end
+  caught-from end run =
+      let past = run-past start here new (option_map (name_of here) last) (name_of here number) run.0 (name_of here end) reached before next-named run.1 in
+      let name : name_of new end ≡ name_of here end = ap (λ names. get_or names end (Explicit 0)) past.names in
+      record {
+        goes = subst (λ (s : SubName). GoesOn start new (Some s)) (sym name) past.goes;
+        fewer = subst (λ (s : SubName). length (above sub_lt (Some s) (open_names start)) < length (above sub_lt (option_map (name_of here) last) (open_names start))) (sym name) past.fewer;
+      }

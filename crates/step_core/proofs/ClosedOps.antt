@@ -1,36 +1,14 @@
 -- A subscription that is closed, and the grain that forgets it.
-use Rattle.std.proofs.Common.{◌≡◌, ◌∙◌, ap, sym, subst, refl, ℕ, ◌<◌, Bool, true, false, not, List, [], ◌∷◌, length, set, Option, Some, None, ◌==◌, arith}
-use Rattle.std.specs.Prelude.{if◌then◌else◌}
-use Rattle.std.specs.List.{AllByRecursion}
-use Rattle.std.proofs.lemmas.Bool.{false≢true}
-use Rattle.std.proofs.lemmas.List.{get_or-set_same}
-use Rattle.stream_model.proofs.Refusals.{unsubscribe-implicit}
-use Rattle.pubsub_registry.specs.Registry.{PlainRegistry, close_found, closed_registration}
+use Rattle.step_core.proofs.Prelude.{PlainActivation, forgotten, closed, Delivery, SubState, AreUnique, PlainRegistry, close_found, closed_registration, Registration, ◌≡◌, ◌∙◌, ap, sym, subst, refl, ℕ, ◌<◌, Bool, true, false, not, List, [], ◌∷◌, length, set, Option, Some, None, ◌==◌, arith, false≢true, get_or-set_same, AllByRecursion, if◌then◌else◌, All-filter, same_grain, same_sub, changed_value, place_of, value_at, GrainId, SubName, place_of-value, place_of-within, unsubscribe-implicit, Reply, Grain, PlainPartition, AreRecords, PlainTable, close, closed_by, no_entry, no_state, registration_at, state_at}
 use Rattle.pubsub_registry.proofs.Entries.{length-closed}
 use Rattle.step_core.proofs.RecordOps.{record-found}
-use Rattle.stream_ident.specs.declared.ident.GrainId.{GrainId}
-use Rattle.stream_ident.specs.declared.ident.SubName.{SubName}
 use Rattle.stream_ident.specs.declared.ident.SubName.TheVariants as name
-use Rattle.stream_ident.specs.Name.{same_grain}
-use Rattle.stream_ident.specs.SubName.{same_sub}
-use Rattle.stream_ident.specs.Words.{changed_value, place_of, value_at}
-use Rattle.stream_model.specs.declared.plain.Grain.{Grain}
-use Rattle.stream_model.specs.declared.plain.PlainPartition.{PlainPartition}
-use Rattle.stream_model.specs.Replies.{Reply}
 use Rattle.stream_model.specs.declared.reply.Reply.TheVariants as reply
 use Rattle.stream_model.specs.Publishing as plain
 use Rattle.stream_model.proofs.ChangedValues.{All-changed, place_of-changed, place_of-unchanged}
-use Rattle.stream_model.proofs.Lookups.{place_of-value, place_of-within}
-use Rattle.consumer_grain.specs.declared.mailbox.Delivery.{Delivery}
-use Rattle.consumer_grain.specs.Activations.{PlainActivation, forgotten}
-use Rattle.consumer_grain.specs.Subscriptions.{closed}
-use Rattle.consumer_grain.specs.declared.sub_state.SubState.{SubState}
-use Rattle.pubsub_registry.specs.declared.registration.Registration.{Registration}
 use Rattle.pubsub_registry.specs.declared.told.Closing.{Closing}
 use Rattle.pubsub_registry.specs.declared.told.Closing.TheVariants as close_told
-use Rattle.pubsub_registry.specs.Index.{AreUnique}
-use Rattle.subscription_table.specs.Standing.{AreRecords}
-use Rattle.subscription_table.specs.Table.{PlainTable, close, closed_by, no_entry, no_state, number_of, registration_at, state_at}
+use Rattle.subscription_table.specs.Table.{number_of}
 use Rattle.step_core.specs.Assembly.{Agrees, IsAssembled}
 use Rattle.step_core.specs.Known.{AreKnown}
 use Rattle.step_core.specs.Numbers.{AreDistinct, IsBelow}
@@ -43,7 +21,6 @@ use Rattle.step_core.proofs.KnownOps.{known-state}
 use Rattle.step_core.proofs.NamesOps.{name-of-entry, name-of-place}
 use Rattle.step_core.proofs.Shared.{distinct-of-unique}
 use Rattle.step_core.proofs.SubscriberOps.{forgotten-is, unsubscribe-parts, with_closed}
-use Rattle.stream_ident.proofs.EachOf.{All-filter}
 
 -- ---- the grain forgets the record
 
@@ -106,56 +83,35 @@ close-explicit t n number records found =
     by true = refl
     by false = refl
 
-close-large : (t : PlainTable) (s : SubName) (number : ℕ) → AreRecords t → place_of same_sub s t.registry.names ≡ Some number → IsAsLarge t (close t number).0
-close-large t (name.Implicit kind stream) number records found =
-    subst (λ (stepped : PlainTable × Closing). IsAsLarge t stepped.0) (sym (close-found t (name.Implicit kind stream) number found)) (record { names = refl; most_names = refl; most_rules = refl })
-close-large t (name.Explicit n) number records found =
-    subst (λ (stepped : PlainTable × Closing). IsAsLarge t stepped.0) (sym (close-explicit t n number records found)) (by (state_at t number).live)
-  where
-    picked : Bool → PlainTable × Closing
-    picked is_open = if is_open then (with_closed_name t n number, close_told.Done) else (t, close_told.Closed)
+-- the table is as large as it was, the grains know what they knew, and a record that it closed is closed
+record IsClosed (t : PlainTable) (grains : List (GrainId × PlainActivation)) (number : ℕ) (stepped : PlainTable × Closing) : Type 0 where
+  pub large : IsAsLarge t stepped.0
+  pub known : AreKnown stepped.0.registry.names stepped.0.states grains
+  pub closes : stepped.1 ≡ close_told.Done → (state_at stepped.0 number).live ≡ false
 
-    by : (is_open : Bool) → IsAsLarge t (picked is_open).0
-    by true = record { names = length-closed t.registry.names (name.Explicit n); most_names = refl; most_rules = refl }
-    by false = record { names = refl; most_names = refl; most_rules = refl }
-
--- what the grains know stays so
-close-known : (t : PlainTable) (grains : List (GrainId × PlainActivation)) (s : SubName) (number : ℕ) → AreRecords t → place_of same_sub s t.registry.names ≡ Some number → AreKnown t.registry.names t.states grains
-    → AreKnown (close t number).0.registry.names (close t number).0.states grains
-close-known t grains (name.Implicit kind stream) number records found known =
-    subst (λ (stepped : PlainTable × Closing). AreKnown stepped.0.registry.names stepped.0.states grains) (sym (close-found t (name.Implicit kind stream) number found)) known
-close-known t grains (name.Explicit n) number records found known =
-    subst (λ (stepped : PlainTable × Closing). AreKnown stepped.0.registry.names stepped.0.states grains) (sym (close-explicit t n number records found)) (by (state_at t number).live)
+close-is : (t : PlainTable) (grains : List (GrainId × PlainActivation)) (s : SubName) (number : ℕ) → AreRecords t → place_of same_sub s t.registry.names ≡ Some number → AreKnown t.registry.names t.states grains → IsClosed t grains number (close t number)
+close-is t grains s number records found known = by s found
   where
     within : number < length t.states
-    within = omega (arith, place_of-within same_sub (name.Explicit n) number t.registry.names found, records.long)
+    within = omega (arith, place_of-within same_sub s number t.registry.names found, records.long)
 
-    picked : Bool → PlainTable × Closing
-    picked is_open = if is_open then (with_closed_name t n number, close_told.Done) else (t, close_told.Closed)
+    same : (told : Closing) → (told ≡ close_told.Done → ⊥) → IsClosed t grains number (t, told)
+    same told other = record { large = record { names = refl; most_names = refl; most_rules = refl }; known = known; closes = λ is. absurd (other is) }
 
-    by : (is_open : Bool) → AreKnown (picked is_open).0.registry.names (picked is_open).0.states grains
-    by true =
-        known-names t.registry.names (changed_value same_sub (name.Explicit n) closed_registration t.registry.names) (set t.states number (closed (state_at t number))) grains
-        (known-state t.registry.names t.states grains number (closed (state_at t number)) known within (λ is_open. absurd (false≢true is_open)) (λ at none unheld. (at, none)))
-        (length-closed t.registry.names (name.Explicit n)) (closed-grain (name.Explicit n) t.registry.names)
-    by false = known
+    picked : (n : ℕ) (is_open : Bool) → IsClosed t grains number (if is_open then (with_closed_name t n number, close_told.Done) else (t, close_told.Closed))
+    picked n true = record {
+      large = record { names = length-closed t.registry.names (name.Explicit n); most_names = refl; most_rules = refl };
+      known =
+          known-names t.registry.names (changed_value same_sub (name.Explicit n) closed_registration t.registry.names) (set t.states number (closed (state_at t number))) grains
+          (known-state t.registry.names t.states grains number (closed (state_at t number)) known within (λ is_open. absurd (false≢true is_open)) (λ at none unheld. (at, none)))
+          (length-closed t.registry.names (name.Explicit n)) (closed-grain (name.Explicit n) t.registry.names);
+      closes = λ _. ap (λ (state : SubState). state.live) (get_or-set_same t.states number (closed (state_at t number)) no_state within);
+    }
+    picked n false = same close_told.Closed (λ is. cc)
 
--- a record that was closed now is so
-close-closes : (t : PlainTable) (s : SubName) (number : ℕ) → AreRecords t → place_of same_sub s t.registry.names ≡ Some number → (close t number).1 ≡ close_told.Done → (state_at (close t number).0 number).live ≡ false
-close-closes t (name.Implicit kind stream) number records found =
-    subst (λ (stepped : PlainTable × Closing). stepped.1 ≡ close_told.Done → (state_at stepped.0 number).live ≡ false) (sym (close-found t (name.Implicit kind stream) number found)) (λ is. absurd (cc))
-close-closes t (name.Explicit n) number records found =
-    subst (λ (stepped : PlainTable × Closing). stepped.1 ≡ close_told.Done → (state_at stepped.0 number).live ≡ false) (sym (close-explicit t n number records found)) (by (state_at t number).live)
-  where
-    within : number < length t.states
-    within = omega (arith, place_of-within same_sub (name.Explicit n) number t.registry.names found, records.long)
-
-    picked : Bool → PlainTable × Closing
-    picked is_open = if is_open then (with_closed_name t n number, close_told.Done) else (t, close_told.Closed)
-
-    by : (is_open : Bool) → (picked is_open).1 ≡ close_told.Done → (state_at (picked is_open).0 number).live ≡ false
-    by true is = ap (λ (state : SubState). state.live) (get_or-set_same t.states number (closed (state_at t number)) no_state within)
-    by false is = absurd (cc)
+    by : (s : SubName) → place_of same_sub s t.registry.names ≡ Some number → IsClosed t grains number (close t number)
+    by (name.Implicit kind stream) found = subst (IsClosed t grains number) (sym (close-found t (name.Implicit kind stream) number found)) (same close_told.Implicit (λ is. cc))
+    by (name.Explicit n) found = subst (IsClosed t grains number) (sym (close-explicit t n number records found)) (picked n (state_at t number).live)
 
 module _ (parts : Parts) (number : ℕ) where
   -- the grains without what is kept of the record
@@ -206,15 +162,14 @@ module _ (parts : Parts) (number : ℕ) where
     pub closed-performs : (new : PlainTable) (told : Closing) → Agrees parts → AreUnique parts.subs.registry.names → (new, told) ≡ close parts.subs number → closed_as (new, told) ≡ plain.unsubscribe (plain_of parts) s
     closed-performs new told agrees unique done = ap closed_as done ∙ closed-same agrees unique
 
-    pub closed-assembled : (new : PlainTable) (told : Closing) → IsAssembled parts → (new, told) ≡ close parts.subs number → IsAssembled (record parts { subs = new })
-    closed-assembled new told assembled done =
-        subst (λ (stepped : PlainTable × Closing). IsAssembled (record parts { subs = stepped.0 })) (sym done)
-        (assembled-subs parts (close parts.subs number).0 (close-large parts.subs s number records (sym found)) (close-known parts.subs parts.grains s number records (sym found) assembled.known) assembled)
+    closed-is : (new : PlainTable) (told : Closing) → IsAssembled parts → (new, told) ≡ close parts.subs number → IsClosed parts.subs parts.grains number (new, told)
+    closed-is new told assembled done = subst (IsClosed parts.subs parts.grains number) (sym done) (close-is parts.subs parts.grains s number records (sym found) assembled.known)
 
-    pub closed-after : (new : PlainTable) → (new, close_told.Done) ≡ close parts.subs number → (state_at new number).live ≡ false
-    closed-after new done =
-        subst (λ (t : PlainTable). (state_at t number).live ≡ false) (sym (ap (λ (stepped : PlainTable × Closing). stepped.0) done))
-        (close-closes parts.subs s number records (sym found) (sym (ap (λ (stepped : PlainTable × Closing). stepped.1) done)))
+    pub closed-assembled : (new : PlainTable) (told : Closing) → IsAssembled parts → (new, told) ≡ close parts.subs number → IsAssembled (record parts { subs = new })
+    closed-assembled new told assembled done = let is = closed-is new told assembled done in assembled-subs parts new is.large is.known assembled
+
+    pub closed-after : (new : PlainTable) → IsAssembled parts → (new, close_told.Done) ≡ close parts.subs number → (state_at new number).live ≡ false
+    closed-after new assembled done = (closed-is new close_told.Done assembled done).closes refl
 
 -- a grain that forgets a closed record knows no other numbers, and all that are open
 forgotten-known : (parts : Parts) (g : GrainId) (number : ℕ) → IsAssembled parts → (state_at parts.subs number).live ≡ false → AreKnown parts.subs.registry.names parts.subs.states (forgotten_by g number parts.grains)

@@ -1,72 +1,40 @@
 -- A worker ends a turn, done by the parts.
-use Rattle.std.proofs.Common.{◌≡◌, ◌∙◌, ap, sym, subst, refl, ℕ, suc, ◌<◌, Bool, true, false, ◌&&◌, not, List, [], ◌∷◌, length, Option, Some, None, ◌==◌, pred, nat_le, arith}
-use Rattle.std.specs.Prelude.{if◌then◌else◌}
-use Rattle.std.specs.List.{AllByRecursion, list_any}
-use Rattle.std.specs.Option.{option_map}
-use Rattle.std.proofs.lemmas.Bool.{and_from, cond_both, eq-eqb, false≢true, le-leb}
-use Rattle.stream_ident.specs.declared.ident.GrainId.{GrainId}
-use Rattle.stream_ident.specs.declared.ident.SubName.{SubName}
-use Rattle.stream_ident.specs.declared.token.Token.{Token}
-use Rattle.stream_ident.specs.Name.{same_grain}
-use Rattle.stream_ident.specs.SubName.{same_sub}
-use Rattle.stream_ident.specs.Words.{change_at, past}
-use Rattle.stream_model.specs.declared.plain.Grain.{Grain}
-use Rattle.stream_model.specs.declared.plain.PlainPartition.{PlainPartition}
+use Rattle.step_core.proofs.Prelude.{PlainActivation, commit_turn, current_turn, holds, is_turn, without_turn, committed, RunningTurn, Delivery, activation_at, no_grain, PlainGrains, number_of, PlainRegistry, Registration, ◌≡◌, ◌∙◌, ap, ap₂, sym, subst, refl, ℕ, suc, ◌<◌, Bool, true, false, ◌&&◌, not, List, [], ◌∷◌, ◌++◌, length, Option, Some, None, ◌==◌, pred, nat_le, arith, and_from, cond_both, eq-eqb, false≢true, le-leb, AllByRecursion, list_any, option_map, if◌then◌else◌, place_of-key, same_sub-refl, same_grain, same_sub, change_at, past, GrainId, SubName, Token, marks_of, running_of, grain-fits, AreIn, IsWithinLimits, running_positions, grain_at, running_in, sub_at, token_at, with_sub, Reply, takes_memory, Grain, PlainPartition, Subscription, PlainTable, no_entry, no_state, state_at, with_state}
 use Rattle.stream_model.specs.declared.plain.RunningTurn as plain_turn
-use Rattle.stream_model.specs.declared.plain.Subscription.{Subscription}
-use Rattle.stream_model.specs.Replies.{Reply}
 use Rattle.stream_model.specs.declared.reply.Reply.TheVariants as reply
-use Rattle.stream_model.specs.Bounds.{AreIn, IsWithinLimits, running_positions}
-use Rattle.stream_model.specs.Positions.{grain_at, running_in, token_at}
-use Rattle.stream_model.specs.Step.{IsReached, takes_memory}
 use Rattle.stream_model.specs.Turns as plain
-use Rattle.stream_laws.proofs.Invariant.{marks_of, running_of}
-use Rattle.stream_model.proofs.Lookups.{place_of-within}
 use Rattle.stream_laws.proofs.Marks.{IsNext}
-use Rattle.stream_model.proofs.RecordBounds.{grain-fits}
-use Rattle.stream_ident.proofs.SameValues.{same_sub-refl}
-use Rattle.consumer_grain.specs.declared.mailbox.Delivery.{Delivery}
-use Rattle.consumer_grain.specs.declared.activation.RunningTurn.{RunningTurn}
-use Rattle.consumer_grain.specs.Activations.{PlainActivation, commit, commit_turn, current_turn, holds, is_turn, runs, without_turn}
+use Rattle.consumer_grain.specs.Activations.{commit}
+use Rattle.consumer_grain.specs.Activations as holding
 use Rattle.consumer_grain.specs.Handled.{rises_from}
-use Rattle.consumer_grain.specs.Subscriptions.{committed}
-use Rattle.grain_table.specs.Changes.{activation_at, no_grain}
 use Rattle.grain_table.specs.Changes as grains
-use Rattle.grain_table.specs.Grains.{PlainGrains, number_of}
-use Rattle.pubsub_registry.specs.declared.registration.Registration.{Registration}
-use Rattle.pubsub_registry.specs.Registry.{PlainRegistry}
 use Rattle.subscription_table.specs.Table as table
-use Rattle.subscription_table.specs.Table.{PlainTable, no_entry, no_state, state_at, with_state}
-use Rattle.stream_ident.proofs.FirstLemmas.{place_of-key}
 use Rattle.step_core.specs.Assembly.{IsAssembled}
 use Rattle.step_core.specs.Known.{AreKnown, IsOf}
 use Rattle.step_core.specs.Numbers.{AreDistinct, IsBelow, TurnIsBelow}
 use Rattle.step_core.specs.declared.parts.Parts.{Parts}
 use Rattle.step_core.specs.PlainOf.{plain_of}
 use Rattle.step_core.specs.TurnReplies.{handle}
-use Rattle.step_core.specs.View.{name_at, turn_of}
-use Rattle.step_core.proofs.GrainOps.{grain-found}
+use Rattle.step_core.specs.Records.{record_of}
+use Rattle.step_core.specs.View.{grain_of, name_at, turn_of}
+use Rattle.step_core.proofs.GrainOps.{grain-found, grain-new, grain-set}
 use Rattle.step_core.proofs.KnownOps.{known-grain, known-state, or-right}
 use Rattle.step_core.proofs.KnownTurns.{ended-holds}
-use Rattle.step_core.proofs.NamesOps.{record-of-number}
-use Rattle.step_core.proofs.NumberedOps.{All-change_at, change_at-by, known-at}
-use Rattle.step_core.proofs.RecordOps.{record_at}
-use Rattle.step_core.proofs.Shared.{history-of, name-same}
-use Rattle.step_core.proofs.TurnOps.{commit-parts, committed_by}
+use Rattle.step_core.proofs.NamesOps.{number-of-name, record-of-number}
+use Rattle.step_core.proofs.NumberedOps.{HasGrain, All-change_at, change_at-by, grain-below, grain-within}
+use Rattle.step_core.proofs.RecordOps.{record-set}
+use Rattle.step_core.proofs.Shared.{distinct-of-unique, history-of, name-same}
 
 -- the turn that was asked for runs
-pub is-running : (running : Option RunningTurn) (run : RunningTurn) (own activation turn : ℕ) → (if is_turn own activation turn running then running else None) ≡ Some run → (running ≡ Some run) × (is_turn own activation turn running ≡ true)
-is-running None run own activation turn is = absurd (cc)
-is-running (Some r) run own activation turn is = by ((activation == own) && (turn == r.turn)) is
+running-is : (running : Option RunningTurn) (run : RunningTurn) (own activation turn : ℕ) → (if is_turn own activation turn running then running else None) ≡ Some run → running ≡ Some run
+running-is None run own activation turn is = absurd (cc)
+running-is (Some r) run own activation turn is = by ((activation == own) && (turn == r.turn)) is
   where
-    by : (b : Bool) → (if b then Some r else None) ≡ Some run → (Some r ≡ Some run) × (b ≡ true)
-    by true is = (is, refl)
+    by : (b : Bool) → (if b then Some r else None) ≡ Some run → Some r ≡ Some run
+    by true is = is
     by false is = absurd (cc)
 
 -- ---- what runs is of numbers that are given, of positions of the log, and goes on where what is handled ends
-
-pub running-below : (n : ℕ) (running : Option RunningTurn) (run : RunningTurn) → TurnIsBelow n running → running ≡ Some run → run.sub < n
-running-below n running run below is = subst (TurnIsBelow n) is below
 
 view-running : (parts : Parts) (g : GrainId) (i : ℕ) (run : RunningTurn) → number_of parts.grains g ≡ Some i → (activation_at parts.grains i).running ≡ Some run → (grain_at (plain_of parts) g).running ≡ Some (turn_of parts.subs.registry.names run)
 view-running parts g i run found is =
@@ -74,8 +42,7 @@ view-running parts g i run found is =
 
 pub running-within : (parts : Parts) (g : GrainId) (i : ℕ) (run : RunningTurn) → IsWithinLimits (plain_of parts) → number_of parts.grains g ≡ Some i → (activation_at parts.grains i).running ≡ Some run → AllByRecursion (λ position. position < length parts.queue.events) run.positions
 running-within parts g i run within found is =
-    let fits = grain-fits (plain_of parts) g within in
-    subst (λ o. AreIn parts.queue.events (running_positions o)) (view-running parts g i run found is) fits.2
+    subst (λ o. AreIn parts.queue.events (running_positions o)) (view-running parts g i run found is) (grain-fits (plain_of parts) g within).2
 
 rises-next : (marks : List Bool) (a : ℕ) (positions : List ℕ) → IsNext marks a positions → rises_from a positions ≡ true
 rises-next marks a [] next = refl
@@ -85,31 +52,40 @@ rises-next marks a (position ∷ positions) next =
 own-running : (s : SubName) (run : plain_turn.RunningTurn) → s ≡ run.sub → running_in s (Some run) ≡ run.positions
 own-running s run is = ap (λ b. if b then run.positions else []) (ap (λ s. same_sub s run.sub) is ∙ same_sub-refl run.sub)
 
--- and of a record of the grain
-running-grain : (parts : Parts) (g : GrainId) (i : ℕ) (run : RunningTurn) → IsReached (plain_of parts) → number_of parts.grains g ≡ Some i → (activation_at parts.grains i).running ≡ Some run
-    → AreDistinct parts.subs.registry.names → length parts.subs.registry.names ≡ length parts.subs.states → run.sub < length parts.subs.registry.names → (record_at parts run.sub no_entry no_state).grain ≡ g
-running-grain parts g i run reached found is distinct lengths below =
-    let history = history-of (plain_of parts) reached in
-    let r = record_at parts run.sub no_entry no_state in
-    let view = view-running parts g i run found is in
-    let runs = (history.fits.grains.each g).running (turn_of parts.subs.registry.names run) view in
-    let is_record = record-of-number parts run.sub no_entry no_state distinct lengths below in
-    let same : runs.record_of ≡ r = cc in
-    ap (λ (r : Subscription). r.grain) (sym same) ∙ runs.grain
+-- exactly this turn runs for a grain with a number
+pub record Runs (parts : Parts) (g : GrainId) (i activation turn : ℕ) (run : RunningTurn) : Type 0 where
+  pub has : HasGrain parts g i
+  pub is_current : current_turn (activation_at parts.grains i) activation turn ≡ Some run
 
-pub running-rises : (parts : Parts) (g : GrainId) (i : ℕ) (run : RunningTurn) → IsReached (plain_of parts) → AreDistinct parts.subs.registry.names → length parts.subs.registry.names ≡ length parts.subs.states → number_of parts.grains g ≡ Some i
-    → run.sub < length parts.subs.registry.names → (activation_at parts.grains i).running ≡ Some run → rises_from (past (state_at parts.subs run.sub).handled) run.positions ≡ true
-running-rises parts g i run reached distinct lengths found below is =
-    let history = history-of (plain_of parts) reached in
-    let p = plain_of parts in
-    let s = name_at parts.subs.registry.names run.sub in
-    let r = record_at parts run.sub no_entry no_state in
-    let view = view-running parts g i run found is in
-    let is_record = record-of-number parts run.sub no_entry no_state distinct lengths below in
-    let of_grain : r.grain ≡ g = running-grain parts g i run reached found is distinct lengths below in
-    let next = (history.fits.subs s r is_record).in_turn.next in
-    let positions : running_of p s r ≡ run.positions = ap (λ g. running_in s (grain_at p g).running) of_grain ∙ ap (running_in s) view ∙ own-running s (turn_of parts.subs.registry.names run) refl in
-    rises-next (marks_of r.stream r.start parts.queue.events) (past r.handled) run.positions (subst (IsNext (marks_of r.stream r.start parts.queue.events) (past r.handled)) positions next)
+module _ {parts : Parts} {g : GrainId} {i activation turn : ℕ} {run : RunningTurn} (runs : Runs parts g i activation turn run) where
+  pub is-running : (activation_at parts.grains i).running ≡ Some run
+  is-running = running-is (activation_at parts.grains i).running run (activation_at parts.grains i).number activation turn runs.is_current
+
+  pub running-below : run.sub < length parts.subs.registry.names
+  running-below = subst (TurnIsBelow (length parts.subs.registry.names)) is-running (grain-below runs.has).running
+
+  record-runs : sub_at (plain_of parts) (name_at parts.subs.registry.names run.sub) ≡ Some (record_of parts run.sub)
+  record-runs = record-of-number parts run.sub no_entry no_state (distinct-of-unique parts.subs.registry.names runs.has.agrees.unique) (sym runs.has.agrees.records.long) running-below
+
+  -- its record is of the grain
+  running-grain : (record_of parts run.sub).grain ≡ g
+  running-grain =
+      let history = history-of (plain_of parts) runs.has.agrees.reached in
+      let view = view-running parts g i run runs.has.found is-running in
+      let fits = (history.fits.grains.each g).running (turn_of parts.subs.registry.names run) view in
+      let is_record = record-runs in
+      let same : fits.record_of ≡ record_of parts run.sub = cc in
+      ap (λ (r : Subscription). r.grain) (sym same) ∙ fits.grain
+
+  pub running-rises : rises_from (past (state_at parts.subs run.sub).handled) run.positions ≡ true
+  running-rises =
+      let p = plain_of parts in
+      let s = name_at parts.subs.registry.names run.sub in
+      let r = record_of parts run.sub in
+      let next = ((history-of p runs.has.agrees.reached).fits.subs s r record-runs).in_turn.next in
+      let positions : running_of p s r ≡ run.positions =
+      ap (λ g. running_in s (grain_at p g).running) running-grain ∙ ap (running_in s) (view-running parts g i run runs.has.found is-running) ∙ own-running s (turn_of parts.subs.registry.names run) refl in
+      rises-next (marks_of r.stream r.start parts.queue.events) (past r.handled) run.positions (subst (IsNext (marks_of r.stream r.start parts.queue.events) (past r.handled)) positions next)
 
 -- ---- what the parts do and reply
 
@@ -120,88 +96,102 @@ with_both parts subs grains = record parts { subs = subs; grains = grains }
 abbrev pub out_of : Parts → PlainGrains → PlainTable × Reply → PlainPartition × Reply
 out_of parts grains (subs, reply) = (plain_of (with_both parts subs grains), reply)
 
-committed-running : (parts : Parts) (i activation turn note : ℕ) (run : RunningTurn) → is_turn (activation_at parts.grains i).number activation turn (Some run) ≡ true
-    → committed_by parts i no_grain no_state activation turn note (Some run) ≡ out_of parts (change_at (λ _. record (activation_at parts.grains i) { running = None }) i parts.grains) (handle parts.subs parts.queue run note)
-committed-running parts i activation turn note run is =
-    ap (λ b. if b then done (state_at parts.subs run.sub).live else (plain_of parts, reply.Stale)) is ∙ by (state_at parts.subs run.sub).live
+-- where this turn runs it ends, and its events are handled where its subscription is open
+abbrev commit_by : Parts → ℕ → ℕ → Option RunningTurn → PlainPartition × Reply
+commit_by parts i note None = (plain_of parts, reply.Stale)
+commit_by parts i note (Some run) = out_of parts (change_at without_turn i parts.grains) (handle parts.subs parts.queue run note)
+
+commit-running : (parts : Parts) (g : GrainId) (i activation turn note : ℕ) (running : Option RunningTurn) → HasGrain parts g i → (activation_at parts.grains i).running ≡ running
+    → plain.commit_running (plain_of parts) g (grain_of parts.subs.registry.names (activation_at parts.grains i)) activation turn note (option_map (turn_of parts.subs.registry.names) running)
+    ≡ commit_by parts i note (if is_turn (activation_at parts.grains i).number activation turn running then running else None)
+unfolding plain.commit_running plain.commit_for
+commit-running parts g i activation turn note None has is = refl
+commit-running parts g i activation turn note (Some run) has is =
+    rw (record-of-number parts run.sub no_entry no_state distinct (sym has.agrees.records.long) below)
+    (by ((activation == (activation_at parts.grains i).number) && (turn == run.turn)) (told (state_at parts.subs run.sub).live))
   where
-    grains : PlainGrains
-    grains = change_at (λ _. record (activation_at parts.grains i) { running = None }) i parts.grains
+    names : List (SubName × Registration)
+    names = parts.subs.registry.names
+
+    distinct : AreDistinct names
+    distinct = distinct-of-unique names has.agrees.unique
+
+    below : run.sub < length names
+    below = subst (TurnIsBelow (length names)) is (grain-below has).running
+
+    ended : Parts
+    ended = record parts { grains = change_at without_turn i parts.grains }
+
+    left : PlainPartition
+    left = plain.ended (plain_of parts) g (grain_of names (activation_at parts.grains i))
+
+    change : Subscription → Subscription
+    change r = record r { handled = r.handled ++ run.positions; note = note }
 
     after : PlainTable
     after = with_state parts.subs run.sub (committed run.positions note (state_at parts.subs run.sub))
 
-    done : Bool → PlainPartition × Reply
-    done is_open =
-        if not is_open then (plain_of (with_both parts parts.subs grains), reply.Closed)
-        else (plain_of (with_both parts after grains), reply.Committed (name_at parts.subs.registry.names run.sub) (token_at (plain_of parts) (pred (past run.positions))))
+    token : Token
+    token = token_at (plain_of parts) (pred (past run.positions))
 
-    told : Bool → PlainTable × Reply
-    told is_open =
-        if is_open then (after, reply.Committed (table.name_at parts.subs run.sub) (token_at (plain_of parts) (pred (past run.positions))))
-        else (parts.subs, reply.Closed)
+    ends : left ≡ plain_of ended
+    ends = grain-set parts g i no_grain without_turn (λ st. record st { running = None }) has.found refl
 
-    by : (is_open : Bool) → done is_open ≡ out_of parts grains (told is_open)
-    by false = refl
-    by true = ap {B = PlainPartition × Reply} (λ s. (plain_of (with_both parts after grains), reply.Committed s (token_at (plain_of parts) (pred (past run.positions))))) (name-same parts.subs run.sub)
+    handles : with_sub (plain_of ended) (name_at names run.sub) (change (record_of parts run.sub)) ≡ plain_of (record ended { subs = after })
+    handles =
+        record-set ended (name_at names run.sub) run.sub no_entry no_state (committed run.positions note (state_at parts.subs run.sub)) change (sym has.agrees.records.long)
+        (number-of-name names run.sub distinct below) refl
 
--- where this turn runs, a commit leaves none
-pub ends-running : (grains now : PlainGrains) (i activation turn : ℕ) (run : RunningTurn) → current_turn (activation_at grains i) activation turn ≡ Some run
-    → now ≡ change_at (λ a. (commit a activation turn).0) i grains → now ≡ change_at without_turn i grains
-ends-running grains now i activation turn run is_current is_now =
-    is_now ∙ change_at-by (λ a. (commit a activation turn).0) i grains no_grain
-    ∙ ap (λ (running : Option RunningTurn). change_at (λ _. (commit_turn (activation_at grains i) running).0) i grains) is_current
-    ∙ sym (change_at-by without_turn i grains no_grain)
+    told : (is_open : Bool)
+        → (if not is_open then (left, reply.Closed) else (with_sub left (name_at names run.sub) (change (record_of parts run.sub)), reply.Committed (name_at names run.sub) token))
+        ≡ out_of parts (change_at without_turn i parts.grains) (if is_open then (after, reply.Committed (table.name_at parts.subs run.sub) token) else (parts.subs, reply.Closed))
+    told false = ap {B = PlainPartition × Reply} (λ p. (p, reply.Closed)) ends
+    told true =
+        ap₂ {C = PlainPartition × Reply} (λ p s. (p, reply.Committed s token)) (ap (λ p. with_sub p (name_at names run.sub) (change (record_of parts run.sub))) ends ∙ handles) (name-same parts.subs run.sub)
 
--- exactly this turn runs: it is handled, or its subscription is closed
-pub commit-told : (parts : Parts) (g : GrainId) (i activation turn note : ℕ) (run : RunningTurn) (subs : PlainTable) (grains : PlainGrains) (told : Reply)
-    → AreDistinct parts.subs.registry.names → length parts.subs.registry.names ≡ length parts.subs.states → number_of parts.grains g ≡ Some i → IsBelow (length parts.subs.registry.names) (activation_at parts.grains i)
-    → current_turn (activation_at parts.grains i) activation turn ≡ Some run
-    → (subs, told) ≡ handle parts.subs parts.queue run note
-    → grains ≡ change_at without_turn i parts.grains
-    → (plain_of (with_both parts subs grains), told) ≡ plain.commit (plain_of parts) g activation turn note
-commit-told parts g i activation turn note run subs grains told distinct lengths found below is_current is_handled is_grains =
-    let a = activation_at parts.grains i in
-    let runs = is-running a.running run a.number activation turn is_current in
-    let is_turn' = ap (is_turn a.number activation turn) (sym runs.0) ∙ runs.1 in
-    sym (
-    commit-parts parts g i activation turn note no_entry no_grain no_state distinct lengths found below
-    ∙ ap (committed_by parts i no_grain no_state activation turn note) runs.0
-    ∙ committed-running parts i activation turn note run is_turn'
-    ∙ ap (out_of parts (change_at (λ _. record a { running = None }) i parts.grains)) (sym is_handled)
-    ∙ ap (λ grains. out_of parts grains (subs, told)) (sym (is_grains ∙ change_at-by without_turn i parts.grains no_grain))
-    )
+    by : (its : Bool) {left : PlainPartition × Reply} → left ≡ commit_by parts i note (Some run) → (if its then left else (plain_of parts, reply.Stale)) ≡ commit_by parts i note (if its then Some run else None)
+    by true is = is
+    by false is = refl
+
+commit-is : (parts : Parts) (g : GrainId) (i activation turn note : ℕ) → HasGrain parts g i
+    → plain.commit (plain_of parts) g activation turn note ≡ commit_by parts i note (current_turn (activation_at parts.grains i) activation turn)
+unfolding plain.commit
+commit-is parts g i activation turn note has =
+    rw (grain-found parts g i no_grain has.found) (commit-running parts g i activation turn note (activation_at parts.grains i).running has refl)
+
+pub commit-none : (parts : Parts) (g : GrainId) (activation turn note : ℕ) → number_of parts.grains g ≡ None → plain.commit (plain_of parts) g activation turn note ≡ (plain_of parts, reply.Stale)
+unfolding plain.commit plain.commit_running
+commit-none parts g activation turn note none = rw (grain-new parts g none) refl
 
 -- no such turn runs
-pub commit-stale : (parts : Parts) (g : GrainId) (i activation turn note : ℕ)
-    → AreDistinct parts.subs.registry.names → length parts.subs.registry.names ≡ length parts.subs.states → number_of parts.grains g ≡ Some i → IsBelow (length parts.subs.registry.names) (activation_at parts.grains i)
-    → current_turn (activation_at parts.grains i) activation turn ≡ None
-    → plain.commit (plain_of parts) g activation turn note ≡ (plain_of parts, reply.Stale)
-commit-stale parts g i activation turn note distinct lengths found below none =
-    commit-parts parts g i activation turn note no_entry no_grain no_state distinct lengths found below ∙ by (activation_at parts.grains i).running none
-  where
-    by : (running : Option RunningTurn) → (if is_turn (activation_at parts.grains i).number activation turn running then running else None) ≡ None → committed_by parts i no_grain no_state activation turn note running ≡ (plain_of parts, reply.Stale)
-    by None none = refl
-    by (Some run) none = on ((activation == (activation_at parts.grains i).number) && (turn == run.turn)) _ none
-      where
-        on : (b : Bool) (x : PlainPartition × Reply) → (if b then Some run else None) ≡ None → (if b then x else (plain_of parts, reply.Stale)) ≡ (plain_of parts, reply.Stale)
-        on true x none = absurd (cc)
-        on false x none = refl
+pub commit-stale : (parts : Parts) (g : GrainId) (i activation turn note : ℕ) → HasGrain parts g i → current_turn (activation_at parts.grains i) activation turn ≡ None → plain.commit (plain_of parts) g activation turn note ≡ (plain_of parts, reply.Stale)
+commit-stale parts g i activation turn note has none = commit-is parts g i activation turn note has ∙ ap (commit_by parts i note) none
+
+-- where this turn runs, a commit leaves none
+pub ends-running : {parts : Parts} {g : GrainId} {i activation turn : ℕ} {run : RunningTurn} (now : PlainGrains) → Runs parts g i activation turn run → now ≡ change_at (λ a. (commit a activation turn).0) i parts.grains → now ≡ change_at without_turn i parts.grains
+ends-running {parts} {g} {i} {activation} {turn} now runs is_now =
+    is_now ∙ change_at-by (λ a. (commit a activation turn).0) i parts.grains no_grain
+    ∙ ap (λ (running : Option RunningTurn). change_at (λ _. (commit_turn (activation_at parts.grains i) running).0) i parts.grains) runs.is_current
+    ∙ sym (change_at-by without_turn i parts.grains no_grain)
+
+-- exactly this turn runs: it is handled, or its subscription is closed
+pub commit-told : {parts : Parts} {g : GrainId} {i activation turn : ℕ} {run : RunningTurn} (note : ℕ) (subs : PlainTable) (grains : PlainGrains) (told : Reply) → Runs parts g i activation turn run
+    → (subs, told) ≡ handle parts.subs parts.queue run note → grains ≡ change_at without_turn i parts.grains
+    → (plain_of (with_both parts subs grains), told) ≡ plain.commit (plain_of parts) g activation turn note
+commit-told {parts} {g} {i} {activation} {turn} {run} note subs grains told runs is_handled is_grains =
+    ap₂ (out_of parts) is_grains is_handled ∙ sym (commit-is parts g i activation turn note runs.has ∙ ap (commit_by parts i note) runs.is_current)
 
 -- where the subscription is open, the reply takes memory
-pub commit-takes : (parts : Parts) (g : GrainId) (i activation turn note : ℕ) (run : RunningTurn)
-    → AreDistinct parts.subs.registry.names → length parts.subs.registry.names ≡ length parts.subs.states → number_of parts.grains g ≡ Some i → IsBelow (length parts.subs.registry.names) (activation_at parts.grains i)
-    → current_turn (activation_at parts.grains i) activation turn ≡ Some run → (state_at parts.subs run.sub).live ≡ true
+pub commit-takes : {parts : Parts} {g : GrainId} {i activation turn : ℕ} {run : RunningTurn} (note : ℕ) → Runs parts g i activation turn run → (state_at parts.subs run.sub).live ≡ true
     → takes_memory (plain.commit (plain_of parts) g activation turn note).1 ≡ true
-commit-takes parts g i activation turn note run distinct lengths found below is_current is_open =
-    let grains = change_at without_turn i parts.grains in
-    let handles = handle parts.subs parts.queue run note in
-    let does = commit-told parts g i activation turn note run handles.0 grains handles.1 distinct lengths found below is_current refl refl in
-    ap (λ (out : PlainPartition × Reply). takes_memory out.1) (sym does) ∙ by (state_at parts.subs run.sub).live _ _ is_open
+commit-takes {parts} {g} {i} {activation} {turn} {run} note runs is_open =
+    ap (λ (out : PlainPartition × Reply). takes_memory out.1) (commit-is parts g i activation turn note runs.has ∙ ap (commit_by parts i note) runs.is_current)
+    ∙ ap (λ b. takes_memory (told b).1) is_open
   where
-    by : (b : Bool) (subs : PlainTable) (token : Token) → b ≡ true → takes_memory (if◌then◌else◌ {A = PlainTable × Reply} b (subs, reply.Committed (table.name_at parts.subs run.sub) token) (parts.subs, reply.Closed)).1 ≡ true
-    by true subs token is = refl
-    by false subs token is = absurd (cc)
+    told : Bool → PlainTable × Reply
+    told is_open =
+        if is_open then (with_state parts.subs run.sub (committed run.positions note (state_at parts.subs run.sub)), reply.Committed (table.name_at parts.subs run.sub) (token_at (plain_of parts) (pred (past run.positions))))
+        else (parts.subs, reply.Closed)
 
 -- ---- the parts stay assembled
 
@@ -226,11 +216,10 @@ handle-registry subs now told parts run note is =
     ∙ cond_both (state_at subs run.sub).live _ _ (λ (out : PlainTable × Reply). out.0.registry ≡ subs.registry) (λ _. refl) (λ _. refl)
 
 -- what runs is of a record of the grain
-commit-known : (parts : Parts) (g : GrainId) (i activation turn note : ℕ) (run : RunningTurn) → IsAssembled parts → IsReached (plain_of parts)
-    → AreDistinct parts.subs.registry.names → length parts.subs.registry.names ≡ length parts.subs.states → number_of parts.grains g ≡ Some i → current_turn (activation_at parts.grains i) activation turn ≡ Some run
+commit-known : {parts : Parts} {g : GrainId} {i activation turn : ℕ} {run : RunningTurn} (note : ℕ) → Runs parts g i activation turn run
     → AreKnown parts.subs.registry.names (handle parts.subs parts.queue run note).0.states (change_at without_turn i parts.grains)
-commit-known parts g i activation turn note run assembled reached distinct lengths found is_current =
-    known-grain names (handle parts.subs parts.queue run note).0.states parts.grains i without_turn handled inside refl (λ n none. ended-holds n a none)
+commit-known {parts} {g} {i} {activation} {turn} {run} note runs =
+    known-grain names (handle parts.subs parts.queue run note).0.states parts.grains i without_turn handled (grain-within runs.has) refl (λ n none. ended-holds n a none)
   where
     names : List (SubName × Registration)
     names = parts.subs.registry.names
@@ -238,35 +227,30 @@ commit-known parts g i activation turn note run assembled reached distinct lengt
     a : PlainActivation
     a = activation_at parts.grains i
 
-    inside : i < length parts.grains
-    inside = place_of-within same_grain g i parts.grains found
-
-    running : a.running ≡ Some run
-    running = (is-running a.running run a.number activation turn is_current).0
-
-    below : run.sub < length names
-    below = running-below (length names) a.running run (known-at parts i assembled inside).running running
+    known : AreKnown names parts.subs.states parts.grains
+    known = runs.has.agrees.assembled.known
 
     theirs : IsOf names parts.grains run.sub i
-    theirs = subst (λ (h : GrainId). same_grain h (grains.grain_at parts.grains i) ≡ true) (sym (running-grain parts g i run reached found running distinct lengths below)) (place_of-key same_grain g parts.grains no_grain i found)
+    theirs = subst (λ (h : GrainId). same_grain h (grains.grain_at parts.grains i) ≡ true) (sym (running-grain runs)) (place_of-key same_grain g parts.grains no_grain i runs.has.found)
 
     held : holds run.sub a ≡ true
-    held = or-right (list_any (λ (d : Delivery). run.sub == d.sub) a.mailbox) (runs run.sub a.running) (ap (runs run.sub) running ∙ eq-eqb run.sub run.sub refl)
+    held = or-right (list_any (λ (d : Delivery). run.sub == d.sub) a.mailbox) (holding.runs run.sub a.running) (ap (holding.runs run.sub) (is-running runs) ∙ eq-eqb run.sub run.sub refl)
 
     handled : AreKnown names (handle parts.subs parts.queue run note).0.states parts.grains
     handled =
         cond_both (state_at parts.subs run.sub).live _ _ (λ (out : PlainTable × Reply). AreKnown names out.0.states parts.grains)
-        (λ _. known-state names parts.subs.states parts.grains run.sub (committed run.positions note (state_at parts.subs run.sub)) assembled.known (omega (arith, below, lengths))
-        (λ is_open. is_open) (λ at none unheld. absurd (false≢true (sym (unheld i inside theirs) ∙ held))))
-        (λ _. assembled.known)
+        (λ _. known-state names parts.subs.states parts.grains run.sub (committed run.positions note (state_at parts.subs run.sub)) known (omega (arith, running-below runs, runs.has.agrees.records.long))
+        (λ is_open. is_open) (λ at none unheld. absurd (false≢true (sym (unheld i (grain-within runs.has) theirs) ∙ held))))
+        (λ _. known)
 
-pub commit-assembled : (parts : Parts) (g : GrainId) (i activation turn note : ℕ) (run : RunningTurn) (subs : PlainTable) (grains : PlainGrains) (told : Reply) → IsAssembled parts → IsReached (plain_of parts)
-    → AreDistinct parts.subs.registry.names → length parts.subs.registry.names ≡ length parts.subs.states → number_of parts.grains g ≡ Some i → current_turn (activation_at parts.grains i) activation turn ≡ Some run
+pub commit-assembled : {parts : Parts} {g : GrainId} {i activation turn : ℕ} {run : RunningTurn} (note : ℕ) (subs : PlainTable) (grains : PlainGrains) (told : Reply) → Runs parts g i activation turn run
     → (subs, told) ≡ handle parts.subs parts.queue run note → grains ≡ change_at without_turn i parts.grains → IsAssembled (with_both parts subs grains)
-commit-assembled parts g i activation turn note run subs grains told assembled reached distinct lengths found is_current is_handled is_grains =
+commit-assembled {parts} {g} {i} {activation} {turn} {run} note subs grains told runs is_handled is_grains =
     both-known parts subs grains assembled (handle-registry parts.subs subs told parts run note is_handled)
     (subst (λ (grains : PlainGrains). AllByRecursion (λ entry. IsBelow (length parts.subs.registry.names) entry.1) grains) (sym is_grains)
     (All-change_at (IsBelow (length parts.subs.registry.names)) without_turn i parts.grains (ended-below (length parts.subs.registry.names)) assembled.numbered))
     (subst (AreKnown parts.subs.registry.names subs.states) (sym is_grains)
-    (subst (λ (out : PlainTable × Reply). AreKnown parts.subs.registry.names out.0.states (change_at without_turn i parts.grains)) (sym is_handled)
-    (commit-known parts g i activation turn note run assembled reached distinct lengths found is_current)))
+    (subst (λ (out : PlainTable × Reply). AreKnown parts.subs.registry.names out.0.states (change_at without_turn i parts.grains)) (sym is_handled) (commit-known note runs)))
+  where
+    assembled : IsAssembled parts
+    assembled = runs.has.agrees.assembled

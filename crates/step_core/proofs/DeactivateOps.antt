@@ -1,22 +1,7 @@
 -- A grain leaves memory, done by the parts.
-use Rattle.std.proofs.Common.{◌≡◌, ◌∙◌, ap, refl, ℕ, ◌+◌, ◌<◌, Bool, true, false, ◌&&◌, not, List, [], length, map, get_or, Option, Some, None}
-use Rattle.std.proofs.lemmas.List.{length-map}
-use Rattle.std.specs.Prelude.{if◌then◌else◌}
-use Rattle.std.specs.Option.{option_map}
-use Rattle.stream_ident.specs.declared.ident.GrainId.{GrainId}
-use Rattle.stream_ident.specs.declared.ident.SubName.{SubName}
-use Rattle.stream_ident.specs.Name.{same_grain}
-use Rattle.stream_ident.specs.Words.{each_value, place_of}
-use Rattle.stream_model.specs.declared.plain.PlainPartition.{PlainPartition}
-use Rattle.stream_model.specs.Replies.{Reply}
+use Rattle.step_core.proofs.Prelude.{PlainActivation, deactivated, lost, running_count, RunningTurn, SubState, Registration, ◌≡◌, ◌∙◌, ap, ap₂, refl, ℕ, ◌+◌, ◌<◌, false, ◌&&◌, not, List, [], length, map, get_or, Option, Some, None, length-map, option_map, if◌then◌else◌, same_grain, each_value, place_of, GrainId, SubName, with_grain, rewound_where, Reply, PlainPartition}
 use Rattle.stream_model.specs.declared.reply.Reply.TheVariants as reply
-use Rattle.stream_model.specs.Positions.{with_grain}
-use Rattle.stream_model.specs.Pulling.{rewound_where}
 use Rattle.stream_model.specs.Turns as plain
-use Rattle.consumer_grain.specs.declared.activation.RunningTurn.{RunningTurn}
-use Rattle.consumer_grain.specs.Activations.{PlainActivation, deactivated, lost, running_count}
-use Rattle.consumer_grain.specs.declared.sub_state.SubState.{SubState}
-use Rattle.pubsub_registry.specs.declared.registration.Registration.{Registration}
 use Rattle.step_core.specs.declared.parts.Parts.{Parts}
 use Rattle.step_core.specs.PlainOf.{plain_of}
 use Rattle.step_core.specs.View.{delivery_of, grain_of, sub_of, turn_of}
@@ -42,16 +27,10 @@ pub deactivate-parts : (parts : Parts) (g : GrainId) (i : ℕ) (d : GrainId × P
     else (plain_of (record (with_activation parts i (deactivated (activation_at parts i d))) { subs = record parts.subs { states = new } }), reply.Deactivated (lost (activation_at parts i d))))
 unfolding plain.deactivate plain.deactivate_in
 deactivate-parts parts g i d new lengths as_long found rewinds =
-    rw (grain-found parts g i d found) (by (activation_at parts i d).active)
+    rw (grain-found parts g i d found) (ap₂ answer state counts)
   where
     a : PlainActivation
     a = activation_at parts i d
-
-    left : PlainPartition × Reply
-    left = (plain.deactivated (plain_of parts) g (grain_of parts.subs.registry.names a), reply.Deactivated (length (map (delivery_of parts.subs.registry.names) a.mailbox) + plain.running_count (option_map (turn_of parts.subs.registry.names) a.running)))
-
-    right : PlainPartition × Reply
-    right = (plain_of (record (with_activation parts i (deactivated a)) { subs = record parts.subs { states = new } }), reply.Deactivated (lost a))
 
     grains : with_grain (plain_of parts) g (record (grain_of parts.subs.registry.names a) { active = false; mailbox = []; running = None }) ≡ plain_of (with_activation parts i (deactivated a))
     grains = grain-set parts g i d (λ _. deactivated a) (λ st. record st { active = false; mailbox = []; running = None }) found refl
@@ -66,8 +45,5 @@ deactivate-parts parts g i d new lengths as_long found rewinds =
         ap (λ n. n + plain.running_count (option_map (turn_of parts.subs.registry.names) a.running)) (length-map a.mailbox (delivery_of parts.subs.registry.names))
         ∙ ap (λ n. length a.mailbox + n) (count-same parts a.running)
 
-    by : (active : Bool) → (if not active then (plain_of parts, reply.NotActive) else left) ≡ (if not active then (plain_of parts, reply.NotActive) else right)
-    by false = refl
-    by true =
-        ap {B = PlainPartition × Reply} (λ p. (p, reply.Deactivated (length (map (delivery_of parts.subs.registry.names) a.mailbox) + plain.running_count (option_map (turn_of parts.subs.registry.names) a.running)))) state
-        ∙ ap {B = PlainPartition × Reply} (λ n. (plain_of (record (with_activation parts i (deactivated a)) { subs = record parts.subs { states = new } }), reply.Deactivated n)) counts
+    answer : PlainPartition → ℕ → PlainPartition × Reply
+    answer left count = if not a.active then (plain_of parts, reply.NotActive) else (left, reply.Deactivated count)

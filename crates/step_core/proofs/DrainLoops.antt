@@ -1,11 +1,8 @@
 -- The loops of a drain: what is left to do from here, and that one round more leaves the same.
-use Rattle.std.proofs.Common.{◌≡◌, ◌∙◌, ap, refl, subst, ℕ, zero, suc, true, false, Option, Some, None, Ok, Err}
-use Rattle.stream_ident.specs.declared.ident.GrainId.{GrainId}
-use Rattle.stream_ident.specs.declared.ident.SubName.{SubName}
-use Rattle.stream_model.specs.declared.op.Op.TheVariants.{Deliver, Pull}
-use Rattle.stream_model.specs.declared.plain.PlainPartition.{PlainPartition}
+use Rattle.step_core.proofs.Prelude.{◌≡◌, ◌∙◌, ap, refl, subst, ℕ, zero, suc, Bool, true, false, Option, Some, None, Ok, GrainId, SubName, Astray, Progress, ask, least_waiting, deliver_up_to, Deliver, Pull, PlainPartition}
+use Rattle.std.proofs.Common.{Err}
 use Rattle.stream_model.specs.Draining as draining
-use Rattle.stream_model.specs.Draining.{Astray, Progress, after_deliver, after_pull, ask, least_waiting, take_turn, take_turns, deliver_up_to}
+use Rattle.stream_model.specs.Draining.{after_deliver, after_pull, take_turn, take_turns}
 use Rattle.step_core.specs.declared.draining.Stop.{Stop}
 use Rattle.step_core.specs.DrainPhases.{Asks, Ends, deliver_told, halted, pull_told}
 use Rattle.step_core.proofs.DrainReplies.{deliver-told, more_delivers, more_rounds, pull-told}
@@ -17,13 +14,13 @@ Suffices start here rest whole = (new : PlainPartition) (end : Option (Option dr
 
 -- ---- deliveries
 
-pub deliver-more : (n : ℕ) (s : SubName) (g : GrainId) (old mid new : PlainPartition) (end : Option (Option draining.Stop)) → Asks old mid (Ok true) (Deliver old.generation s) deliver_told → Ends mid new end (more_delivers n s g mid) → Ends old new end (deliver_up_to n s g old)
-deliver-more n s g old mid new end asked rest =
-    asked-more old mid new end (Deliver old.generation s) deliver_told (more_delivers n s g) (after_deliver n s g) (deliver-told n s g) asked rest
+pub deliver-more : (n : ℕ) (s : SubName) (g : GrainId) (old mid new : PlainPartition) (end : Option (Option draining.Stop)) (goes_on : Bool) → goes_on ≡ true → Asks old mid (Ok goes_on) (Deliver old.generation s) deliver_told → Ends mid new end (more_delivers n s g mid) → Ends old new end (deliver_up_to n s g old)
+deliver-more n s g old mid new end goes_on is asked rest =
+    asked-more old mid new end (Deliver old.generation s) deliver_told (more_delivers n s g) (after_deliver n s g) goes_on (deliver-told n s g) is asked rest
 
-pub deliver-done : (n : ℕ) (s : SubName) (g : GrainId) (old new : PlainPartition) → Asks old new (Ok false) (Deliver old.generation s) deliver_told → Ends old new (Some None) (deliver_up_to n s g old)
-deliver-done n s g old new asked =
-    asked-done old new (Deliver old.generation s) deliver_told (more_delivers n s g) (after_deliver n s g) (deliver-told n s g) asked
+pub deliver-done : (n : ℕ) (s : SubName) (g : GrainId) (old new : PlainPartition) (goes_on : Bool) → goes_on ≡ false → Asks old new (Ok goes_on) (Deliver old.generation s) deliver_told → Ends old new (Some None) (deliver_up_to n s g old)
+deliver-done n s g old new goes_on is asked =
+    asked-done old new (Deliver old.generation s) deliver_told (more_delivers n s g) (after_deliver n s g) goes_on (deliver-told n s g) is asked
 
 pub deliver-halted : (n : ℕ) (s : SubName) (g : GrainId) (old new : PlainPartition) (why : Stop) → Asks old new (Err why) (Deliver old.generation s) deliver_told → Ends old new (halted why) (deliver_up_to n s g old)
 deliver-halted n s g old new why asked =
@@ -31,11 +28,11 @@ deliver-halted n s g old new why asked =
 
 -- ---- pulls
 
-pub pull-more : (n : ℕ) (old mid new : PlainPartition) (end : Option (Option draining.Stop)) → Asks old mid (Ok true) (Pull old.generation 32) pull_told → Ends mid new end (more_rounds n mid) → Ends old new end (ask old (Pull old.generation 32) (after_pull n))
-pull-more n old mid new end asked rest = asked-more old mid new end (Pull old.generation 32) pull_told (more_rounds n) (after_pull n) (pull-told n) asked rest
+pub pull-more : (n : ℕ) (old mid new : PlainPartition) (end : Option (Option draining.Stop)) (goes_on : Bool) → goes_on ≡ true → Asks old mid (Ok goes_on) (Pull old.generation 32) pull_told → Ends mid new end (more_rounds n mid) → Ends old new end (ask old (Pull old.generation 32) (after_pull n))
+pull-more n old mid new end goes_on is asked rest = asked-more old mid new end (Pull old.generation 32) pull_told (more_rounds n) (after_pull n) goes_on (pull-told n) is asked rest
 
-pub pull-done : (n : ℕ) (old new : PlainPartition) → Asks old new (Ok false) (Pull old.generation 32) pull_told → Ends old new (Some None) (ask old (Pull old.generation 32) (after_pull n))
-pull-done n old new asked = asked-done old new (Pull old.generation 32) pull_told (more_rounds n) (after_pull n) (pull-told n) asked
+pub pull-done : (n : ℕ) (old new : PlainPartition) (goes_on : Bool) → goes_on ≡ false → Asks old new (Ok goes_on) (Pull old.generation 32) pull_told → Ends old new (Some None) (ask old (Pull old.generation 32) (after_pull n))
+pull-done n old new goes_on is asked = asked-done old new (Pull old.generation 32) pull_told (more_rounds n) (after_pull n) goes_on (pull-told n) is asked
 
 pub pull-halted : (n : ℕ) (old new : PlainPartition) (why : Stop) → Asks old new (Err why) (Pull old.generation 32) pull_told → Ends old new (halted why) (ask old (Pull old.generation 32) (after_pull n))
 pull-halted n old new why asked = asked-halted old new why (Pull old.generation 32) pull_told (more_rounds n) (after_pull n) (pull-told n) asked

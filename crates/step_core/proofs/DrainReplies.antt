@@ -1,22 +1,14 @@
 -- What a drain does after each reply, by what the program reads of it.
-use Rattle.std.proofs.Common.{◌≡◌, ◌∙◌, ap, sym, refl, ℕ, zero, suc, Bool, false, if◌then◌else◌}
-use Rattle.stream_ident.specs.declared.ident.GrainId.{GrainId}
-use Rattle.stream_ident.specs.declared.ident.SubName.{SubName}
-use Rattle.stream_model.specs.declared.op.Op.TheVariants.{Pull}
-use Rattle.stream_model.specs.declared.plain.PlainPartition.{PlainPartition}
-use Rattle.stream_model.specs.Replies.{Reply}
+use Rattle.step_core.proofs.Prelude.{◌≡◌, ◌∙◌, ap, sym, refl, ℕ, zero, suc, Bool, GrainId, SubName, Astray, Progress, after_ack, after_last_deliver, and_then, ask, done, drain_round, stopped, deliver_up_to, Reply, Pull, PlainPartition}
+use Rattle.std.proofs.Common.{if◌then◌else◌}
 use Rattle.stream_model.specs.declared.reply.Reply.TheVariants as reply
-use Rattle.stream_model.specs.Draining.{Astray, Progress, after_ack, after_commit, after_deliver, after_last_deliver, after_pull, and_then, ask, done, drain_round, stopped, take_turn, deliver_up_to}
-use Rattle.step_core.specs.DrainPhases.{deliver_told, is_acknowledged, is_committed, is_nothing, pull_told}
-use Rattle.step_core.proofs.DrainSteps.{IsTold, is_wanting}
+use Rattle.stream_model.specs.Draining.{after_deliver, after_pull, take_turn}
+use Rattle.step_core.specs.DrainPhases.{deliver_told, is_acknowledged, is_nothing, pull_told}
+use Rattle.step_core.proofs.DrainSteps.{IsTold}
 
 -- done where the reply is the one that is looked for
 abbrev pub done_where : Bool → PlainPartition → Progress
 done_where b p = if b then done p else stopped Astray p
-
-commit-by : (p : PlainPartition) (answer : Reply) → done_where (is_committed answer) p ≡ after_commit p answer
-commit-by p (reply.Committed s token) = refl
-commit-by p _ = refl
 
 ack-by : (p : PlainPartition) (answer : Reply) → done_where (is_acknowledged answer) p ≡ after_ack p answer
 ack-by p reply.Acked = refl

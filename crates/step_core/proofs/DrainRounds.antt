@@ -1,23 +1,10 @@
 -- The phases of a round of a drain, and what a drain is where no turn runs.
-use Rattle.std.proofs.Common.{◌≡◌, ◌∙◌, ap, sym, refl, subst, ℕ, ◌-◌, List, [], ◌∷◌, Option, Some, None, Ok, Err, length}
-use Rattle.std.proofs.lemmas.List.{append_assoc}
-use Rattle.std.specs.declared.alloc.AllocError.{AllocError}
-use Rattle.std.specs.Option.{option_map}
-use Rattle.stream_ident.specs.declared.ident.GrainId.{GrainId}
-use Rattle.stream_ident.specs.declared.ident.SubName.{SubName}
-use Rattle.stream_ident.specs.Name.{grain_lt}
-use Rattle.stream_ident.specs.Words.{keys_where, least}
+use Rattle.step_core.proofs.Prelude.{◌≡◌, ◌∙◌, ap, sym, refl, subst, ℕ, ◌-◌, List, [], ◌∷◌, Option, Some, None, Ok, length, append_assoc, AllocError, grain_lt, keys_where, least, IsPrefixOf, GrainId, SubName, Astray, DrainsTo, commits, done, drain_end, drain_where, Entry, is_running, sub_at, IsReached, Leads, PlainPartition, Subscription}
+use Rattle.std.proofs.Common.{Err}
 use Rattle.stream_model.specs.declared.drain_end.DrainEnd.{DrainEnd}
 use Rattle.stream_model.specs.declared.drain_end.DrainEnd.TheVariants as ending
-use Rattle.stream_model.specs.declared.plain.PlainPartition.{PlainPartition}
-use Rattle.stream_model.specs.declared.plain.Subscription.{Subscription}
 use Rattle.stream_model.specs.Draining as draining
-use Rattle.stream_model.specs.Draining.{Astray, DrainsTo, Progress, acknowledge, and_then, commits, deliver_all, deliver_once_more, done, drain, drain_all, drain_end, drain_where, last_handled, serve, stopped, deliver_up_to}
-use Rattle.stream_model.specs.Looks.{is_running}
-use Rattle.stream_model.specs.Positions.{sub_at}
-use Rattle.stream_model.specs.History.{Entry}
-use Rattle.stream_model.specs.Step.{IsReached, Leads}
-use Rattle.stream_ident.specs.Words.{IsPrefixOf}
+use Rattle.stream_model.specs.Draining.{deliver_all, drain, drain_all, serve}
 use Rattle.stream_laws.proofs.Drained.{drain-ends}
 use Rattle.step_core.specs.DrainPhases.{BreaksOff, Ends}
 use Rattle.step_core.specs.Serving.{serve_up_to}

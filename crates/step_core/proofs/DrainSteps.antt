@@ -1,16 +1,8 @@
 -- A phase of a drain, put together from the operations and phases that it is made of.
-use Rattle.std.proofs.Common.{◌≡◌, ◌∙◌, ap, sym, refl, subst, Bool, true, false, List, [], ◌∷◌, ◌++◌, Option, Some, None, Result, Ok, Err}
-use Rattle.std.proofs.lemmas.List.{append_assoc}
-use Rattle.stream_model.specs.declared.op.Op.{Op}
-use Rattle.stream_model.specs.declared.plain.PlainPartition.{PlainPartition}
-use Rattle.stream_model.specs.Replies.{Reply}
+use Rattle.step_core.proofs.Prelude.{◌≡◌, ◌∙◌, ap, sym, refl, subst, Bool, true, false, List, [], ◌∷◌, ◌++◌, Option, Some, None, Ok, append_assoc, IsPrefixOf, leads-append, AtTooMany, AtSpent, Astray, Progress, and_then, ask, done, go_on, joined, stopped, Entry, may_allocate, Reply, Leads, Op, PlainPartition}
+use Rattle.std.proofs.Common.{Result, Err}
 use Rattle.stream_model.specs.Draining as draining
-use Rattle.stream_model.specs.Draining.{AtTooMany, AtSpent, Astray, Progress, and_then, ask, done, go_on, joined, stopped}
-use Rattle.stream_ident.specs.Words.{IsPrefixOf}
-use Rattle.stream_model.specs.History.{Entry}
-use Rattle.stream_model.specs.Memory.{may_allocate}
-use Rattle.stream_model.specs.Step.{step, Leads}
-use Rattle.stream_model.proofs.Reaching.{leads-append}
+use Rattle.stream_model.specs.Step.{step}
 use Rattle.step_core.specs.declared.draining.Stop.{Stop}
 use Rattle.step_core.specs.declared.draining.Stop.TheVariants as stop
 use Rattle.step_core.specs.DrainPhases.{Asks, Ends, halted}
@@ -116,15 +108,16 @@ abbrev pub IsTold : (Reply → Result Bool Stop) → (PlainPartition → Progres
 IsTold told more next = (p : PlainPartition) (answer : Reply) → by_told (told answer) more p ≡ next p answer
 
 -- the reply says that it goes on
-pub asked-more : (old mid new : PlainPartition) (end : Option (Option draining.Stop)) (op : Op) (told : Reply → Result Bool Stop) (more : PlainPartition → Progress) (next : PlainPartition → Reply → Progress) → IsTold told more next → Asks old mid (Ok true) op told → Ends mid new end (more mid) → Ends old new end (ask old op next)
-asked-more old mid new end op told more next is_told asked rest =
+pub asked-more : (old mid new : PlainPartition) (end : Option (Option draining.Stop)) (op : Op) (told : Reply → Result Bool Stop) (more : PlainPartition → Progress) (next : PlainPartition → Reply → Progress) (goes_on : Bool) → IsTold told more next → goes_on ≡ true → Asks old mid (Ok goes_on) op told → Ends mid new end (more mid)
+    → Ends old new end (ask old op next)
+asked-more old mid new end op told more next goes_on is_told is asked rest =
     ends-ask old mid new end op asked.0 next asked.1
-    (subst (Ends mid new end) (ap (λ t. by_told t more mid) (sym asked.2) ∙ is_told mid asked.0) rest)
+    (subst (Ends mid new end) (ap (λ t. by_told t more mid) (sym (asked.2 ∙ ap {B = Result Bool Stop} Ok is)) ∙ is_told mid asked.0) rest)
 
 -- or that all is done
-pub asked-done : (old new : PlainPartition) (op : Op) (told : Reply → Result Bool Stop) (more : PlainPartition → Progress) (next : PlainPartition → Reply → Progress) → IsTold told more next → Asks old new (Ok false) op told → Ends old new (Some None) (ask old op next)
-asked-done old new op told more next is_told asked =
-    ends-last old new None op asked.0 next asked.1 (ap (λ t. by_told t more new) (sym asked.2) ∙ is_told new asked.0)
+pub asked-done : (old new : PlainPartition) (op : Op) (told : Reply → Result Bool Stop) (more : PlainPartition → Progress) (next : PlainPartition → Reply → Progress) (goes_on : Bool) → IsTold told more next → goes_on ≡ false → Asks old new (Ok goes_on) op told → Ends old new (Some None) (ask old op next)
+asked-done old new op told more next goes_on is_told is asked =
+    ends-last old new None op asked.0 next asked.1 (ap (λ t. by_told t more new) (sym (asked.2 ∙ ap {B = Result Bool Stop} Ok is)) ∙ is_told new asked.0)
 
 -- or that no more is done
 pub asked-halted : (old new : PlainPartition) (why : Stop) (op : Op) (told : Reply → Result Bool Stop) (more : PlainPartition → Progress) (next : PlainPartition → Reply → Progress) → IsTold told more next → Asks old new (Err why) op told → Ends old new (halted why) (ask old op next)
@@ -135,8 +128,3 @@ asked-halted old new stop.Spent op told more next is_told asked =
 asked-halted old new stop.Astray op told more next is_told asked =
     ends-last old new (Some Astray) op asked.0 next asked.1 (ap (λ t. by_told t more new) (sym asked.2) ∙ is_told new asked.0)
 asked-halted old new (stop.Memory wanting) op told more next is_told failed = ends-unchanged old new op next failed.0 failed.1
-
--- memory is wanting, which no reply says
-abbrev pub is_wanting : Result Bool Stop → Bool
-is_wanting (Err (stop.Memory wanting)) = true
-is_wanting _ = false

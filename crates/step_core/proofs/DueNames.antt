@@ -1,41 +1,23 @@
 -- What a drain serves: the open subscriptions that are due, in the order of their names. The others are settled.
-use Rattle.std.proofs.Common.{◌≡◌, ◌∙◌, ap, sym, refl, subst, ℕ, ◌<◌, ◌≤◌, ◌&&◌, ◌||◌, nat_lt, Bool, true, false, List, [], ◌∷◌, ◌++◌, filter, length, get_or, map, Option, Some, None, if◌then◌else◌, arith}
-use Rattle.std.proofs.lemmas.Bool.{and_parts, both_ways, cond_both, eq-eqb, false_from_ne_true, le-leb, lt-ltb, ltb-false, or_parts, or_right}
-use Rattle.std.proofs.lemmas.List.{length-append, length-map}
+use Rattle.step_core.proofs.Prelude.{◌≡◌, ◌∙◌, ap, sym, refl, subst, ℕ, ◌<◌, ◌≤◌, ◌&&◌, ◌||◌, nat_lt, Bool, true, false, List, [], ◌∷◌, ◌++◌, filter, length, Option, Some, None, arith, and_parts, both_ways, cond_both, eq-eqb, false_from_ne_true, le-leb, lt-ltb, ltb-false, or_parts, or_right, append-nil, length-append, length-map, AllByRecursion, list_any, option_map, is_some, IfNone, IfSome, All-weaken, sub_equality, or_else-parts, same_sub, sub_lt, above, is_above, keys_where, least, next_after, or_else, past, SubName, next-bounds, open_names, is_due, next_position, sub_at, IsReached, PlainPartition, Subscription}
 use Rattle.std.specs.Bool.{then_some}
-use Rattle.std.specs.Prelude.{is_some, IfNone, IfSome}
-use Rattle.std.specs.List.{AllByRecursion, list_any}
-use Rattle.std.specs.Option.{option_map}
 use Rattle.stream_ident.proofs.NameOrders.{sub_order}
-use Rattle.stream_ident.proofs.SameValues.{sub_equality}
-use Rattle.stream_ident.proofs.WordLemmas.{or_else-parts}
-use Rattle.stream_ident.specs.declared.ident.SubName.{SubName}
-use Rattle.stream_ident.specs.declared.ident.SubName.TheVariants.{Explicit}
-use Rattle.stream_ident.specs.SubName.{same_sub, sub_lt}
-use Rattle.stream_ident.specs.Words.{above, is_above, keys_where, least, next_after, or_else, past}
-use Rattle.stream_laws.proofs.DrainDeliver.{next-bounds}
 use Rattle.stream_laws.proofs.DrainServe.{IsOpenAt, open-names}
 use Rattle.stream_laws.proofs.KeyLists.{All-keys_where, any-in_order, any-keys_where, each-entry, keys_where-empty}
 use Rattle.stream_laws.proofs.NearSteps.{near-legal}
 use Rattle.stream_laws.proofs.Unique.{AreUnique}
 use Rattle.stream_laws.proofs.UniqueSteps.{steady-legal}
-use Rattle.stream_ident.proofs.EachOf.{All-weaken}
-use Rattle.stream_model.specs.declared.plain.PlainPartition.{PlainPartition}
-use Rattle.stream_model.specs.declared.plain.Subscription.{Subscription}
 use Rattle.stream_model.specs.Draining as draining
-use Rattle.stream_model.specs.Draining.{open_names, serve, serve_each}
-use Rattle.stream_model.specs.Looks.{is_due}
-use Rattle.stream_model.specs.Positions.{is_unacknowledged, next_position, sub_at}
-use Rattle.stream_model.specs.Step.{IsReached}
+use Rattle.stream_model.specs.Draining.{serve, serve_each}
+use Rattle.stream_model.specs.Positions.{is_unacknowledged}
 use Rattle.step_core.specs.declared.draining.Stop.{Stop}
 use Rattle.step_core.specs.Deliverables.{is_deliverable}
 use Rattle.step_core.specs.DrainPhases.{Ends, halted}
-use Rattle.step_core.specs.Serving.{is_settled_in, name_of, next_due}
+use Rattle.step_core.specs.Serving.{is_settled_in, next_due}
 use Rattle.step_core.proofs.DrainLoops.{Suffices}
 use Rattle.step_core.proofs.DrainSteps.{ends-halted, ends-then}
 use Rattle.step_core.proofs.KeptNames.{open_keys, served-keeps, served-names}
-use Rattle.step_core.proofs.KnownOps.{or-map}
-use Rattle.step_core.proofs.RisingNames.{AreRising, IsSplit, above-filter, apart-keys, least-is, least-past, none-past, not-passed, rising-in_order, split-at}
+use Rattle.step_core.proofs.RisingNames.{AreRising, IsSplit, above-filter, apart-keys, least-is, least-past, none-past, not-passed, of-any, rising-in_order, split-at}
 use Rattle.step_core.proofs.SettledOps.{serves-settled}
 use Rattle.step_core.proofs.Shared.{history-of}
 
@@ -87,22 +69,15 @@ rising-names p reached =
     rising-in_order sub_lt same_sub sub_order sub_equality (open_keys p) (apart-keys sub_lt same_sub sub_order sub_equality (λ (r : Subscription). r.is_open) p.subs (unique-of p reached))
 
 -- what is due is open
-any-weaker : (test : SubName → Bool) (passes weaker : Subscription → Bool) → ((r : Subscription) → passes r ≡ true → weaker r ≡ true) → (subs : List (SubName × Subscription)) → list_any test (keys_where passes subs) ≡ true → list_any test (keys_where weaker subs) ≡ true
-any-weaker test passes weaker implies [] found = absurd (cc)
-any-weaker test passes weaker implies (entry ∷ subs) found = by (passes entry.1) (weaker entry.1) (implies entry.1) found (any-weaker test passes weaker implies subs)
-  where
-    by : (b w : Bool) → (b ≡ true → w ≡ true) → list_any test (map (λ (e : SubName × Subscription). e.0) (if b then entry ∷ filter (λ (e : SubName × Subscription). passes e.1) subs else filter (λ (e : SubName × Subscription). passes e.1) subs)) ≡ true
-        → (list_any test (keys_where passes subs) ≡ true → list_any test (keys_where weaker subs) ≡ true)
-        → list_any test (map (λ (e : SubName × Subscription). e.0) (if w then entry ∷ filter (λ (e : SubName × Subscription). weaker e.1) subs else filter (λ (e : SubName × Subscription). weaker e.1) subs)) ≡ true
-    by true true implies found later = or-map (test entry.0) (list_any test (keys_where passes subs)) (list_any test (keys_where weaker subs)) later found
-    by true false implies found later = let wrong = implies refl in absurd (cc)
-    by false true implies found later = or_right (test entry.0) (list_any test (keys_where weaker subs)) (later found)
-    by false false implies found later = later found
+abbrev IsAmong : PlainPartition → SubName → Type 0
+IsAmong p s = list_any (same_sub s) (open_names p) ≡ true
 
-due-among-open : (p : PlainPartition) (d : SubName) → list_any (same_sub d) (keys_where (is_due p) p.subs) ≡ true → list_any (same_sub d) (open_names p) ≡ true
-due-among-open p d due =
-    any-in_order (same_sub d) sub_lt (open_keys p)
-    ∙ any-weaker (same_sub d) (is_due p) (λ (r : Subscription). r.is_open) (λ r is. (and_parts r.is_open (is_unacknowledged r || nat_lt r.resume p.high) is).0) p.subs due
+due-among-open : (p : PlainPartition) (d : SubName) → IsReached p → list_any (same_sub d) (keys_where (is_due p) p.subs) ≡ true → IsAmong p d
+due-among-open p d reached due =
+    of-any sub_lt same_sub sub_order sub_equality (IsAmong p) d (keys_where (is_due p) p.subs)
+    (All-keys_where (IsAmong p) (is_due p) p.subs
+    (each-entry same_sub sub_equality (λ (s : SubName) (r : Subscription). is_due p r ≡ true → IsAmong p s) p.subs (unique-of p reached)
+    (λ s r found is. any-in_order (same_sub s) sub_lt (open_keys p) ∙ any-keys_where same_sub (λ (r : Subscription). r.is_open) s r p.subs found (and_parts r.is_open (is_unacknowledged r || nat_lt r.resume p.high) is).0))) due
 
 -- ---- what can be delivered
 
@@ -185,12 +160,6 @@ ends-behind-settled p new end [] rest reached settled ends = ends
 ends-behind-settled p new end (s ∷ front) rest reached settled ends =
     ends-then p p new end (serve s p (sub_at p s)) (serve_each (front ++ rest)) (serves-settled p s reached settled.0) (ends-behind-settled p new end front rest reached settled.1 ends)
 
-ends-settled : (p : PlainPartition) (names : List SubName) → IsReached p → AllByRecursion (Settled p) names → Ends p p (Some None) (serve_each names p)
-unfolding serve_each
-ends-settled p [] reached settled = (refl, refl, refl)
-ends-settled p (s ∷ names) reached settled =
-    ends-then p p p (Some None) (serve s p (sub_at p s)) (serve_each names) (serves-settled p s reached settled.0) (ends-settled p names reached settled.1)
-
 -- ---- the loop
 
 -- the names of the open subscriptions are as they were, and once those past the last one are served, all are
@@ -212,7 +181,7 @@ next-of p last d reached next =
     let is = sym next in
     let past = least-past sub_lt same_sub sub_order sub_equality last d (keys_where (is_due p) p.subs) is in
     let split : IsSplit sub_lt same_sub sub_order sub_equality (IsOpenAt p) (is_above sub_lt last) d (open_names p) =
-    split-at sub_lt same_sub sub_order sub_equality (IsOpenAt p) (is_above sub_lt last) (onward last) d past.0 (open_names p) (open-names p (unique-of p reached)) (rising-names p reached) (due-among-open p d past.1) in
+    split-at sub_lt same_sub sub_order sub_equality (IsOpenAt p) (is_above sub_lt last) (onward last) d past.0 (open_names p) (open-names p (unique-of p reached)) (rising-names p reached) (due-among-open p d reached past.1) in
     record {
       front = split.front;
       settled = All-weaken (λ (s : SubName). IsOpenAt p s × ((is_above sub_lt last s ≡ true) × (sub_lt s d ≡ true))) (Settled p)
@@ -225,42 +194,40 @@ next-of p last d reached next =
     onward None x y less past = refl
     onward (Some a) x y less past = sub_order.chain a x y past less
 
--- one name in front of others
-ends-first : (here mid new : PlainPartition) (end : Option (Option draining.Stop)) (d : SubName) (names : List SubName) → Ends here mid (Some None) (serve d here (sub_at here d)) → Ends mid new end (serve_each names mid) → Ends here new end (serve_each (d ∷ names) here)
-unfolding serve_each
-ends-first here mid new end d names served ends = ends-then here mid new end (serve d here (sub_at here d)) (serve_each names) served ends
-
-ends-at-first : (here new : PlainPartition) (d : SubName) (names : List SubName) (why : Stop) → Ends here new (halted why) (serve d here (sub_at here d)) → Ends here new (halted why) (serve_each (d ∷ names) here)
-unfolding serve_each
-ends-at-first here new d names why stopped = ends-halted here new why (serve d here (sub_at here d)) (serve_each names) stopped
+-- what serves those from the next on that is due makes the whole
+from-next : (start here new : PlainPartition) (end : Option (Option draining.Stop)) (last : Option SubName) (d : SubName) → IsReached here → GoesOn start here last → Some d ≡ next_due here last
+    → Ends here new end (serve_each (d ∷ above sub_lt (Some d) (open_names start)) here) → Ends start new end (serve_each (open_names start) start)
+from-next start here new end last d reached before next ends =
+    let at = subst (λ (names : List SubName). IsNext here names last d) before.names (next-of here last d reached next) in
+    before.rest new end
+    (subst (λ (names : List SubName). Ends here new end (serve_each names here)) at.is
+    (ends-behind-settled here new end at.front (d ∷ above sub_lt (Some d) (open_names start)) reached at.settled ends))
 
 -- one more is served
 pub goes-on : (start here mid : PlainPartition) (last : Option SubName) (d : SubName) → IsReached here → GoesOn start here last → Some d ≡ next_due here last → Ends here mid (Some None) (serve d here (sub_at here d)) → GoesOn start mid (Some d)
+unfolding serve_each
 goes-on start here mid last d reached before next served =
-    let at = subst (λ (names : List SubName). IsNext here names last d) before.names (next-of here last d reached next) in
     record {
       names = served-keeps here mid d served ∙ before.names;
-      rest = λ new end ends. before.rest new end
-          (subst (λ (names : List SubName). Ends here new end (serve_each names here)) at.is
-          (ends-behind-settled here new end at.front (d ∷ above sub_lt (Some d) (open_names start)) reached at.settled
-          (ends-first here mid new end d (above sub_lt (Some d) (open_names start)) served ends)));
+      rest = λ new end ends. from-next start here new end last d reached before next
+          (ends-then here mid new end (serve d here (sub_at here d)) (serve_each (above sub_lt (Some d) (open_names start))) served ends);
     }
 
 -- one is not served in full
 pub goes-on-halted : (start here new : PlainPartition) (last : Option SubName) (d : SubName) (why : Stop) → IsReached here → GoesOn start here last → Some d ≡ next_due here last → Ends here new (halted why) (serve d here (sub_at here d)) → Ends start new (halted why) (serve_each (open_names start) start)
+unfolding serve_each
 goes-on-halted start here new last d why reached before next stopped =
-    let at = subst (λ (names : List SubName). IsNext here names last d) before.names (next-of here last d reached next) in
-    before.rest new (halted why)
-    (subst (λ (names : List SubName). Ends here new (halted why) (serve_each names here)) at.is
-    (ends-behind-settled here new (halted why) at.front (d ∷ above sub_lt (Some d) (open_names start)) reached at.settled
-    (ends-at-first here new d (above sub_lt (Some d) (open_names start)) why stopped)))
+    from-next start here new (halted why) last d reached before next
+    (ends-halted here new why (serve d here (sub_at here d)) (serve_each (above sub_lt (Some d) (open_names start))) stopped)
 
 -- no further one is due
 pub goes-on-done : (start here : PlainPartition) (last : Option SubName) → IsReached here → GoesOn start here last → None ≡ next_due here last → Ends start here (Some None) (serve_each (open_names start) start)
+unfolding serve_each
 goes-on-done start here last reached before none =
-    before.rest here (Some None) (ends-settled here (above sub_lt last (open_names start)) reached
+    before.rest here (Some None) (subst (λ (names : List SubName). Ends here here (Some None) (serve_each names here)) (append-nil (above sub_lt last (open_names start)))
+    (ends-behind-settled here here (Some None) (above sub_lt last (open_names start)) [] reached
     (subst (AllByRecursion (Settled here)) (sym (above-filter sub_lt last (open_names start)))
-    (each (open_names start) (subst (AllByRecursion (IsOpenAt here)) before.names (open-names here (unique-of here reached))))))
+    (each (open_names start) (subst (AllByRecursion (IsOpenAt here)) before.names (open-names here (unique-of here reached))))) (refl, refl, refl)))
   where
     each : (names : List SubName) → AllByRecursion (IsOpenAt here) names → AllByRecursion (Settled here) (filter (is_above sub_lt last) names)
     each [] opened = tt
@@ -281,10 +248,7 @@ pub fewer-left : (start here : PlainPartition) (last : Option SubName) (d : SubN
 fewer-left start here last d reached before next =
     subst (λ (names : List SubName). length (above sub_lt (Some d) names) < length (above sub_lt last names)) before.names (fewer-past here last d reached next)
 
--- a name by its number stays as it is while one is served
-pub name-stays : (here mid : PlainPartition) (number : ℕ) (d : SubName) → Ends here mid (Some None) (serve d here (sub_at here d)) → name_of mid number ≡ name_of here number
-name-stays here mid number d served = ap (λ names. get_or names number (Explicit 0)) (served-names here mid d served)
-
+-- as many records are there as before
 pub length-stays : (here mid : PlainPartition) (d : SubName) → Ends here mid (Some None) (serve d here (sub_at here d)) → length mid.subs ≡ length here.subs
 length-stays here mid d served =
     sym (length-map mid.subs (λ (e : SubName × Subscription). e.0)) ∙ ap length (served-names here mid d served) ∙ length-map here.subs (λ (e : SubName × Subscription). e.0)

@@ -1,21 +1,12 @@
 -- The figures of a queue and of a subscription are those of the plain partition.
-use Rattle.std.proofs.Common.{◌≡◌, ◌∙◌, ap, sym, refl, ℕ, ◌+◌, ◌-◌, ◌*◌, Bool, true, false, List, length, Option, Some, None}
-use Rattle.std.specs.Prelude.{if◌then◌else◌, nat_lt, unwrap_or, Result, Ok, Err}
-use Rattle.stream_ident.specs.declared.limits.TheConstants.{BLOCK_EVENTS}
-use Rattle.stream_ident.specs.declared.token.Token.{Token}
-use Rattle.stream_ident.specs.declared.ident.SubName.{SubName}
+use Rattle.step_core.proofs.Prelude.{Plan, StaleAgent, ◌≡◌, ◌∙◌, ap, sym, refl, ℕ, ◌+◌, ◌-◌, ◌*◌, Bool, true, false, List, length, Option, Some, None, if◌then◌else◌, unwrap_or, Result, Err, SubName, BLOCK_EVENTS, Token, between, slowest, slowest_name, token_at, pull, subs_with, Reply, PlainPartition, Subscription}
+use Rattle.std.specs.Prelude.{nat_lt, Ok}
 use Rattle.stream_ident.specs.declared.ident.SubName.TheVariants as name
-use Rattle.stream_model.specs.declared.plain.PlainPartition.{PlainPartition}
-use Rattle.stream_model.specs.declared.plain.Subscription.{Subscription}
 use Rattle.stream_model.specs.declared.reply.Reply.TheVariants as reply
-use Rattle.stream_model.specs.Positions.{between, slowest, slowest_name, token_at}
-use Rattle.stream_model.specs.Pulling.{pull, pull_events, subs_with}
-use Rattle.stream_model.specs.Replies.{Reply}
+use Rattle.stream_model.specs.Pulling.{pull_events}
 use Rattle.stream_model.specs.Step.{step}
 use Rattle.pulling_agent.specs.Agent as agent
-use Rattle.pulling_agent.specs.declared.agent.Plan.{Plan}
 use Rattle.pulling_agent.specs.declared.agent.Plan.TheVariants as plan
-use Rattle.pulling_agent.specs.declared.agent.StaleAgent.{StaleAgent}
 use Rattle.step_core.specs.declared.parts.Parts.{Parts}
 use Rattle.step_core.specs.Figures.{presser, pressed_by}
 use Rattle.step_core.specs.PlainOf.{plain_of}

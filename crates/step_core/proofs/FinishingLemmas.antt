@@ -1,11 +1,8 @@
 -- A quiet partition owes nothing, and neither does one that is drained.
-use Rattle.std.proofs.Common.{◌≡◌, ◌∙◌, ℕ, None, Ok, ap, subst, sym}
+use Rattle.step_core.proofs.Prelude.{◌≡◌, ◌∙◌, ℕ, None, Ok, ap, subst, sym, DrainsTo, pending_in, quiet_reply, IsReached, PlainPartition}
 use Rattle.stream_model.specs.declared.drain_end.DrainEnd.TheVariants as ending
-use Rattle.stream_model.specs.declared.plain.PlainPartition.{PlainPartition}
 use Rattle.stream_model.specs.declared.reply.Reply.TheVariants.{IsQuiet}
-use Rattle.stream_model.specs.Draining.{DrainsTo}
-use Rattle.stream_model.specs.Looks.{pending_in, quiet, quiet_reply}
-use Rattle.stream_model.specs.Step.{IsReached}
+use Rattle.stream_model.specs.Looks.{quiet}
 use Rattle.stream_laws.specs.DrainLaws.{left, sum_open}
 use Rattle.stream_laws.proofs.Drained.{drained-quiet, drained-turns}
 use Rattle.stream_laws.proofs.KeptStep.{kept-step}

@@ -1,20 +1,6 @@
 -- One grain of the parts found by its identity, and changed; and what it holds of a record.
-use Rattle.std.proofs.Common.{◌≡◌, ◌∙◌, ap, sym, refl, ℕ, zero, suc, ◌<◌, Bool, true, false, ◌||◌, List, [], ◌∷◌, ◌++◌, length, map, filter, get_or, Option, Some, None, nat_lt, ◌==◌, arith}
-use Rattle.std.proofs.lemmas.Bool.{lt-ltb}
-use Rattle.std.specs.Prelude.{if◌then◌else◌, unwrap_or}
-use Rattle.std.specs.List.{list_any, AllByRecursion}
-use Rattle.std.specs.Option.{option_map}
-use Rattle.stream_ident.specs.declared.ident.GrainId.{GrainId}
-use Rattle.stream_ident.specs.declared.ident.SubName.{SubName}
-use Rattle.stream_ident.specs.Name.{same_grain}
-use Rattle.stream_ident.specs.Words.{change_at, first_at, place_of, value_at}
-use Rattle.stream_model.specs.declared.plain.Grain.{Grain}
-use Rattle.stream_model.specs.Positions.{grain_at, new_grain, running_in, waiting_in, with_grain}
-use Rattle.stream_model.proofs.Lookups.{place_of-added, place_of-change, place_of-none, place_of-value, place_of-within}
-use Rattle.consumer_grain.specs.declared.mailbox.Delivery.{Delivery}
-use Rattle.consumer_grain.specs.declared.activation.RunningTurn.{RunningTurn}
-use Rattle.consumer_grain.specs.Activations.{PlainActivation, holds, new_activation, runs}
-use Rattle.pubsub_registry.specs.declared.registration.Registration.{Registration}
+use Rattle.step_core.proofs.Prelude.{PlainActivation, holds, new_activation, runs, RunningTurn, Delivery, Registration, ◌≡◌, ◌∙◌, ap, sym, refl, ℕ, zero, suc, ◌<◌, Bool, true, false, ◌||◌, List, [], ◌∷◌, ◌++◌, length, map, filter, get_or, Option, Some, None, nat_lt, ◌==◌, arith, lt-ltb, length-map, map-append, list_any, AllByRecursion, option_map, if◌then◌else◌, unwrap_or, same_grain, change_at, first_at, place_of, value_at, GrainId, SubName, place_of-added, place_of-change, place_of-none, place_of-value, place_of-within, grain_at, new_grain, running_in, waiting_in, with_grain, Grain}
+use Rattle.std.proofs.Math.ListN.{get_or-map}
 use Rattle.step_core.specs.Numbers.{AreDistinct, IsBelow, TurnIsBelow}
 use Rattle.step_core.specs.declared.parts.Parts.{Parts}
 use Rattle.step_core.specs.PlainOf.{plain_of}
@@ -26,14 +12,8 @@ pub place_of_grain : (names : List (SubName × Registration)) (passes : GrainId 
 place_of_grain names passes n [] = refl
 place_of_grain names passes n (entry ∷ entries) = rw (place_of_grain names passes (suc n) entries) refl
 
-pub grains-length : (names : List (SubName × Registration)) (grains : List (GrainId × PlainActivation)) → length (grains_of names grains) ≡ length grains
-grains-length names [] = refl
-grains-length names (entry ∷ entries) = ap suc (grains-length names entries)
-
 pub activation-at : (names : List (SubName × Registration)) (grains : List (GrainId × PlainActivation)) (i : ℕ) (d : GrainId × PlainActivation) → get_or (grains_of names grains) i (d.0, grain_of names d.1) ≡ ((get_or grains i d).0, grain_of names (get_or grains i d).1)
-activation-at names [] i d = refl
-activation-at names (entry ∷ entries) zero d = refl
-activation-at names (entry ∷ entries) (suc i) d = activation-at names entries i d
+activation-at names grains i d = get_or-map (λ (entry : GrainId × PlainActivation). (entry.0, grain_of names entry.1)) grains i d
 
 pub activation-changed : (names : List (SubName × Registration)) (change : PlainActivation → PlainActivation) (step : Grain → Grain) (i : ℕ) (grains : List (GrainId × PlainActivation)) (d : GrainId × PlainActivation) → i < length grains → grain_of names (change (get_or grains i d).1) ≡ step (grain_of names (get_or grains i d).1) → change_at step i (grains_of names grains) ≡ grains_of names (change_at change i grains)
 activation-changed names change step i [] d within changed = absurd (omega (arith, within))
@@ -69,36 +49,31 @@ grain-set parts g i d change step found changed =
     let moved = activation-changed parts.subs.registry.names change step i parts.grains d within changed in
     ap (λ grains. record (plain_of parts) { grains = grains }) (sym written ∙ moved)
 
-grains-push : (names : List (SubName × Registration)) (grains : List (GrainId × PlainActivation)) (entry : GrainId × PlainActivation) → grains_of names (grains ++ entry ∷ []) ≡ grains_of names grains ++ (entry.0, grain_of names entry.1) ∷ []
-grains-push names [] entry = refl
-grains-push names (first ∷ grains) entry = ap (λ rest. (first.0, grain_of names first.1) ∷ rest) (grains-push names grains entry)
-
 -- a grain more
 pub grain-added : (parts : Parts) (g : GrainId) (a : PlainActivation) → place_of same_grain g parts.grains ≡ None → with_grain (plain_of parts) g (grain_of parts.subs.registry.names a) ≡ plain_of (record parts { grains = parts.grains ++ (g, a) ∷ [] })
 grain-added parts g a none =
     ap (λ grains. record (plain_of parts) { grains = grains })
     (place_of-added same_grain g (grain_of parts.subs.registry.names a) (grains_of parts.subs.registry.names parts.grains) (place_of_grain parts.subs.registry.names (same_grain g) 0 parts.grains ∙ none)
-    ∙ sym (grains-push parts.subs.registry.names parts.grains (g, a)))
+    ∙ sym (map-append (λ (entry : GrainId × PlainActivation). (entry.0, grain_of parts.subs.registry.names entry.1)) parts.grains ((g, a) ∷ [])))
 
 -- ---- what a grain holds of a record
 
-some-length : {A B : Type 0} (f : A → B) (test : A → Bool) (xs : List A) → nat_lt 0 (length (map f (filter test xs))) ≡ list_any test xs
-some-length f test [] = refl
-some-length f test (x ∷ xs) = by (test x) (some-length f test xs)
+some-filtered : {A : Type 0} (test : A → Bool) (xs : List A) → nat_lt 0 (length (filter test xs)) ≡ list_any test xs
+some-filtered test [] = refl
+some-filtered test (x ∷ xs) = by (test x) (some-filtered test xs)
   where
-    by : (b : Bool) → nat_lt 0 (length (map f (filter test xs))) ≡ list_any test xs → nat_lt 0 (length (map f (if b then x ∷ filter test xs else filter test xs))) ≡ (b || list_any test xs)
-    by true rest = lt-ltb 0 (suc (length (map f (filter test xs)))) (omega arith)
+    by : (b : Bool) → nat_lt 0 (length (filter test xs)) ≡ list_any test xs → nat_lt 0 (length (if b then x ∷ filter test xs else filter test xs)) ≡ (b || list_any test xs)
+    by true rest = lt-ltb 0 (suc (length (filter test xs))) (omega arith)
     by false rest = rest
-
-map-twice : {A B C : Type 0} (g : B → C) (f : A → B) (xs : List A) → map g (map f xs) ≡ map (λ x. g (f x)) xs
-map-twice g f [] = refl
-map-twice g f (x ∷ xs) = ap (λ rest. g (f x) ∷ rest) (map-twice g f xs)
 
 waiting-is : (names : List (SubName × Registration)) (sub : ℕ) (deliveries : List Delivery) → AreDistinct names → sub < length names → AllByRecursion (λ (d : Delivery). d.sub < length names) deliveries → nat_lt 0 (length (waiting_in (name_at names sub) (map (delivery_of names) deliveries))) ≡ list_any (λ (d : Delivery). sub == d.sub) deliveries
 waiting-is names sub deliveries distinct within all =
     ap (λ ds. nat_lt 0 (length (map (λ d. d.position) ds))) (own-deliveries names sub deliveries distinct within all)
-    ∙ ap (λ positions. nat_lt 0 (length positions)) (map-twice (λ d. d.position) (delivery_of names) (filter (λ (d : Delivery). sub == d.sub) deliveries))
-    ∙ some-length (λ (d : Delivery). d.position) (λ (d : Delivery). sub == d.sub) deliveries
+    ∙ ap (nat_lt 0) (length-map (map (delivery_of names) own) (λ d. d.position) ∙ length-map own (delivery_of names))
+    ∙ some-filtered (λ (d : Delivery). sub == d.sub) deliveries
+  where
+    own : List Delivery
+    own = filter (λ (d : Delivery). sub == d.sub) deliveries
 
 abbrev pub AreSome : Option RunningTurn → Type 0
 AreSome None = Unit {0}

@@ -1,30 +1,17 @@
 -- To serve a subscription makes, opens and closes none: the names stay as they are, and so do those of the open ones.
-use Rattle.std.proofs.Common.{◌≡◌, ◌∙◌, ap, sym, refl, ℕ, zero, suc, ◌-◌, nat_lt, nat_le, ◌==◌, ◌&&◌, not, Bool, true, false, List, [], ◌∷◌, ◌++◌, length, filter, map, is_some, Option, Some, None, if◌then◌else◌}
-use Rattle.std.proofs.lemmas.Bool.{cond_both}
-use Rattle.stream_ident.specs.Blocks.{turn_size}
-use Rattle.stream_ident.specs.declared.ident.GrainId.{GrainId}
-use Rattle.stream_ident.specs.declared.ident.SubName.{SubName}
-use Rattle.stream_ident.specs.declared.token.Token.{Token}
-use Rattle.stream_ident.specs.SubName.{same_sub, sub_lt}
-use Rattle.stream_ident.specs.Words.{keys_where, past, value_at, with_value}
-use Rattle.stream_ident.specs.declared.limits.TheConstants.{MAILBOX_PLACES}
-use Rattle.stream_model.specs.declared.op.Op.{Op}
-use Rattle.stream_model.specs.declared.op.Op.TheVariants.{Ack, Begin, Commit, Deliver}
+use Rattle.step_core.proofs.Prelude.{◌≡◌, ◌∙◌, ap, sym, refl, ℕ, zero, suc, ◌-◌, nat_lt, nat_le, ◌==◌, ◌&&◌, not, Bool, true, false, List, [], ◌∷◌, ◌++◌, length, filter, map, Option, Some, None, cond_both, turn_size, same_sub, sub_lt, keys_where, past, GrainId, SubName, MAILBOX_PLACES, Token, Progress, after_ack, after_begin, after_commit, after_last_deliver, and_then, ask, go_on, in_order, last_handled, next_note, open_names, grain_at, is_spent, next_position, sub_at, with_sub, acknowledged, is_stale, Reply, Op, Ack, Begin, Commit, Deliver, Grain, PlainPartition, Subscription}
+use Rattle.std.proofs.Common.{is_some, if◌then◌else◌}
 use Rattle.stream_model.specs.declared.plain.Delivery.{Delivery}
-use Rattle.stream_model.specs.declared.plain.Grain.{Grain}
-use Rattle.stream_model.specs.declared.plain.PlainPartition.{PlainPartition}
 use Rattle.stream_model.specs.declared.plain.RunningTurn.{RunningTurn}
-use Rattle.stream_model.specs.declared.plain.Subscription.{Subscription}
-use Rattle.stream_model.specs.Replies.{Reply}
 use Rattle.stream_model.specs.declared.reply.Reply.TheVariants as reply
 use Rattle.stream_model.specs.Draining as draining
-use Rattle.stream_model.specs.Draining.{Progress, acknowledge, after_ack, after_begin, after_commit, after_deliver, after_last_deliver, and_then, ask, deliver_all, deliver_once_more, go_on, in_order, last_handled, next_note, open_names, serve, take_turn}
-use Rattle.stream_model.specs.Positions.{grain_at, is_spent, next_position, sub_at, with_sub}
-use Rattle.stream_model.specs.Pulling.{ack, ack_of, ack_position, acknowledged, caught_up, deliver, deliver_position, deliver_to, handled_at, is_stale}
+use Rattle.stream_model.specs.Draining.{acknowledge, after_deliver, deliver_all, deliver_once_more, serve, take_turn}
+use Rattle.stream_model.specs.Pulling.{ack, ack_of, ack_position, caught_up, deliver, deliver_position, deliver_to, handled_at}
 use Rattle.stream_model.specs.Step.{step}
 use Rattle.stream_model.specs.Turns.{begin, begin_for, begin_front, begin_in, begin_turn, commit, commit_for, commit_running}
 use Rattle.step_core.specs.DrainPhases.{Ends}
 use Rattle.step_core.specs.Serving.{names_of}
+use Rattle.step_core.proofs.OnceOps.{with_value-map}
 
 abbrev pub open_keys : PlainPartition → List SubName
 open_keys p = keys_where (λ (r : Subscription). r.is_open) p.subs
@@ -39,17 +26,6 @@ faces p = map face p.subs
 abbrev StayIn : PlainPartition → PlainPartition × Reply → Type 0
 StayIn p out = faces out.0 ≡ faces p
 
--- a record set that is open where the one before was
-faces-with_value : (s : SubName) (old new : Subscription) (subs : List (SubName × Subscription)) → value_at same_sub s subs ≡ Some old → new.is_open ≡ old.is_open → map face (with_value same_sub s new subs) ≡ map face subs
-faces-with_value s old new [] found as_before = absurd (cc)
-faces-with_value s old new (entry ∷ subs) found as_before =
-    (elim (same_sub s entry.0) as (λ b. (if b then Some entry.1 else value_at same_sub s subs) ≡ Some old → map face (if b then (entry.0, new) ∷ subs else entry ∷ with_value same_sub s new subs) ≡ map face (entry ∷ subs)) [
-      | true ↦ λ here.
-          let is_old : entry.1 ≡ old = cc in
-          ap (λ (b : Bool). (entry.0, b) ∷ map face subs) (as_before ∙ ap (λ (r : Subscription). r.is_open) (sym is_old))
-      | false ↦ λ there. ap (λ rest. face entry ∷ rest) (faces-with_value s old new subs there as_before)
-    ]) found
-
 -- the names of all, and of the open ones
 names-of-faces : (subs : List (SubName × Subscription)) → map (λ (e : SubName × Subscription). e.0) subs ≡ map (λ (f : SubName × Bool). f.0) (map face subs)
 names-of-faces [] = refl
@@ -57,21 +33,18 @@ names-of-faces (entry ∷ subs) = ap (λ rest. entry.0 ∷ rest) (names-of-faces
 
 keys-of-faces : (subs : List (SubName × Subscription)) → keys_where (λ (r : Subscription). r.is_open) subs ≡ map (λ (f : SubName × Bool). f.0) (filter (λ (f : SubName × Bool). f.1) (map face subs))
 keys-of-faces [] = refl
-keys-of-faces (entry ∷ subs) = by entry.1.is_open (keys-of-faces subs)
-  where
-    kept : List (SubName × Subscription)
-    kept = filter (λ (e : SubName × Subscription). e.1.is_open) subs
+keys-of-faces (entry ∷ subs) =
+    let same = keys-of-faces subs in
+    let kept = filter (λ (e : SubName × Subscription). e.1.is_open) subs in
+    let rest = filter (λ (f : SubName × Bool). f.1) (map face subs) in
+    elim entry.1.is_open as (λ b. map (λ (e : SubName × Subscription). e.0) (if b then entry ∷ kept else kept) ≡ map (λ (f : SubName × Bool). f.0) (if b then face entry ∷ rest else rest)) [
+      | true ↦ ap (λ names. entry.0 ∷ names) same
+      | false ↦ same
+    ]
 
-    rest : List (SubName × Bool)
-    rest = filter (λ (f : SubName × Bool). f.1) (map face subs)
-
-    by : (b : Bool) → map (λ (e : SubName × Subscription). e.0) kept ≡ map (λ (f : SubName × Bool). f.0) rest
-        → map (λ (e : SubName × Subscription). e.0) (if b then entry ∷ kept else kept) ≡ map (λ (f : SubName × Bool). f.0) (if b then face entry ∷ rest else rest)
-    by true same = ap (λ names. entry.0 ∷ names) same
-    by false same = same
-
+-- a record set that is open where the one before was
 stay-with_sub : (p : PlainPartition) (s : SubName) (old new : Subscription) → sub_at p s ≡ Some old → new.is_open ≡ old.is_open → faces (with_sub p s new) ≡ faces p
-stay-with_sub p s old new found as_before = faces-with_value s old new p.subs found as_before
+stay-with_sub p s old new found as_before = with_value-map face same_sub s old new p.subs found (λ key. ap (λ (b : Bool). (key, b)) as_before)
 
 -- ---- Deliver
 
@@ -137,7 +110,7 @@ unfolding commit_for
 stay-commit_for p g st run note None found = refl
 stay-commit_for p g st run note (Some r) found =
     cond_both (not r.is_open) _ _ (StayIn p) (λ _. refl)
-    (λ _. faces-with_value run.sub r (record r { handled = r.handled ++ run.positions; note = note }) p.subs found refl)
+    (λ _. with_value-map face same_sub run.sub r (record r { handled = r.handled ++ run.positions; note = note }) p.subs found (λ _. refl))
 
 stay-commit_running : (p : PlainPartition) (g : GrainId) (st : Grain) (activation turn note : ℕ) (running : Option RunningTurn) → StayIn p (commit_running p g st activation turn note running)
 unfolding commit_running

@@ -1,24 +1,9 @@
 -- What each change leaves of what the grains know.
-use Rattle.std.proofs.Common.{◌≡◌, ◌≢◌, ◌∙◌, ap, sym, subst, refl, ℕ, zero, suc, ◌<◌, Bool, true, false, ◌||◌, nat_lt, List, [], ◌∷◌, ◌++◌, length, map, get_or, set, Some, None, arith}
-use Rattle.std.proofs.lemmas.List.{get_or-map, get_or-set_other, get_or-set_same}
-use Rattle.std.proofs.lemmas.Bool.{eq-eqb, false≢true, ne_eqb}
-use Rattle.std.specs.List.{list_any}
-use Rattle.std.specs.Prelude.{if◌then◌else◌, ◌==◌}
-use Rattle.stream_ident.specs.declared.ident.GrainId.{GrainId}
-use Rattle.stream_ident.specs.declared.ident.SubName.{SubName}
-use Rattle.stream_ident.specs.Name.{same_grain}
-use Rattle.stream_ident.specs.Words.{change_at, place_of}
-use Rattle.consumer_grain.specs.Activations.{PlainActivation, holds, runs, with_number, woken}
-use Rattle.consumer_grain.specs.declared.mailbox.Delivery.{Delivery}
-use Rattle.consumer_grain.specs.declared.sub_state.SubState.{SubState}
-use Rattle.grain_table.specs.Changes.{activation_at, grain_at, no_grain}
-use Rattle.pubsub_registry.specs.declared.registration.Registration.{Registration}
-use Rattle.subscription_table.specs.Table.{is_in, no_entry, no_state, rewound_open}
+use Rattle.step_core.proofs.Prelude.{PlainActivation, holds, new_activation, runs, with_number, woken, Delivery, SubState, activation_at, no_grain, Registration, ◌≡◌, ◌≢◌, ◌⊎◌, ◌∙◌, ap, sym, subst, refl, ℕ, zero, suc, ◌<◌, Bool, true, false, ◌||◌, nat_lt, List, [], ◌∷◌, ◌++◌, length, map, get_or, set, Some, None, arith, inl, inr, cases_eq, eq-eqb, eqb-true, false≢true, ne_eqb, or_from, or_parts, get_or-map, get_or-set_other, get_or-set_same, get_or_append_left, length-append, list_any, if◌then◌else◌, first_at-None, place_of-key, same_grain-equal, same_grain-refl, length-change_at, set-change_at, same_grain, change_at, place_of, GrainId, SubName, place_of-within, is_in, no_entry, no_state, rewound_open}
+use Rattle.std.proofs.lemmas.List.Folds.{list_any-append}
+use Rattle.std.specs.Prelude.{◌==◌}
+use Rattle.grain_table.specs.Changes.{grain_at}
 use Rattle.step_core.specs.Known.{AreKnown, IsOf, IsUnheld, IsUnknown, IsUntouched}
-use Rattle.stream_ident.proofs.FirstLemmas.{first_at-None, place_of-key}
-use Rattle.stream_ident.proofs.SameValues.{same_grain-equal, same_grain-refl}
-use Rattle.stream_ident.proofs.WordLemmas.{length-change_at}
-use Rattle.stream_model.proofs.Lookups.{place_of-within}
 use Rattle.grain_table.specs.Grains as table
 
 -- ---- a record that no grain knows of
@@ -41,31 +26,13 @@ unknown-nowhere names grains n none k within of_k =
 
 -- ---- one entry changed
 
-pub changed-here : {K V : Type 0} (f : V → V) (j : ℕ) (xs : List (K × V)) (d : K × V) → j < length xs → get_or (change_at f j xs) j d ≡ ((get_or xs j d).0, f (get_or xs j d).1)
-changed-here f j [] d within = absurd (omega (arith, within))
-changed-here f zero (x ∷ xs) d within = refl
-changed-here f (suc j) (x ∷ xs) d within = changed-here f j xs d (omega (arith, within))
+changed-here : (f : PlainActivation → PlainActivation) (j : ℕ) (grains : List (GrainId × PlainActivation)) → j < length grains → get_or (change_at f j grains) j no_grain ≡ (grain_at grains j, f (activation_at grains j))
+changed-here f j grains inside =
+    ap (λ (gs : List (GrainId × PlainActivation)). get_or gs j no_grain) (sym (set-change_at f j grains no_grain inside)) ∙ get_or-set_same grains j (grain_at grains j, f (activation_at grains j)) no_grain inside
 
-pub changed-other : {K V : Type 0} (f : V → V) (j i : ℕ) (xs : List (K × V)) (d : K × V) → i ≢ j → get_or (change_at f j xs) i d ≡ get_or xs i d
-changed-other f j i [] d other = refl
-changed-other f zero zero (x ∷ xs) d other = absurd (other refl)
-changed-other f zero (suc i) (x ∷ xs) d other = refl
-changed-other f (suc j) zero (x ∷ xs) d other = refl
-changed-other f (suc j) (suc i) (x ∷ xs) d other = changed-other f j i xs d (λ same. other (ap suc same))
-
-pub data Either (A B : Type 0) : Type 0 where
-  Left : A → Either A B
-  Right : B → Either A B
-
-pub same-or : (i j : ℕ) → Either (i ≡ j) (i ≢ j)
-same-or zero zero = Left refl
-same-or zero (suc j) = Right (λ same. absurd (omega (arith, same)))
-same-or (suc i) zero = Right (λ same. absurd (omega (arith, same)))
-same-or (suc i) (suc j) = next (same-or i j)
-  where
-    next : Either (i ≡ j) (i ≢ j) → Either (suc i ≡ suc j) (suc i ≢ suc j)
-    next (Left same) = Left (ap suc same)
-    next (Right other) = Right (λ same. other (omega (arith, same)))
+changed-other : (f : PlainActivation → PlainActivation) (j k : ℕ) (grains : List (GrainId × PlainActivation)) → j < length grains → k ≢ j → get_or (change_at f j grains) k no_grain ≡ get_or grains k no_grain
+changed-other f j k grains inside other =
+    ap (λ (gs : List (GrainId × PlainActivation)). get_or gs k no_grain) (sym (set-change_at f j grains no_grain inside)) ∙ get_or-set_other grains j k (grain_at grains j, f (activation_at grains j)) no_grain other
 
 -- ---- states changed, grains as they were
 
@@ -94,22 +61,22 @@ pub known-state : (names : List (SubName × Registration)) (states : List SubSta
     → ((get_or states i no_state).cursor ≡ (get_or states i no_state).resume → (get_or states i no_state).handled ≡ [] → IsUnheld names grains i → (s.cursor ≡ s.resume) × (s.handled ≡ []))
     → AreKnown names (set states i s) grains
 known-state names states grains i s known inside opened stays =
-    known-states names states (set states i s) grains known (λ n within is_open. by n is_open (same-or n i))
+    known-states names states (set states i s) grains known (λ n within is_open. by n is_open (cases_eq n i))
   where
     Old : ℕ → SubState
     Old n = get_or states n no_state
 
-    by : (n : ℕ) → (get_or (set states i s) n no_state).live ≡ true → Either (n ≡ i) (n ≢ i)
+    by : (n : ℕ) → (get_or (set states i s) n no_state).live ≡ true → ((n ≡ i) ⊎ (n ≢ i))
         → ((Old n).live ≡ true)
         × ((Old n).cursor ≡ (Old n).resume → (Old n).handled ≡ [] → IsUnheld names grains n
         → ((get_or (set states i s) n no_state).cursor ≡ (get_or (set states i s) n no_state).resume) × ((get_or (set states i s) n no_state).handled ≡ []))
-    by n is_open (Left same) =
+    by n is_open (inl same) =
         let here : get_or (set states i s) n no_state ≡ s = ap (λ k. get_or (set states i s) k no_state) same ∙ get_or-set_same states i s no_state inside in
         let P : SubState → Type 0 = λ t. (t.cursor ≡ t.resume) × (t.handled ≡ []) in (
           subst (λ k. (Old k).live ≡ true) (sym same) (opened (subst (λ t. t.live ≡ true) here is_open)),
           λ at none unheld. subst P (sym here) (stays (subst (λ k. (Old k).cursor ≡ (Old k).resume) same at) (subst (λ k. (Old k).handled ≡ []) same none) (subst (IsUnheld names grains) same unheld)),
         )
-    by n is_open (Right other) =
+    by n is_open (inr other) =
         let kept : get_or (set states i s) n no_state ≡ get_or states n no_state = get_or-set_other states i n s no_state other in
         let P : SubState → Type 0 = λ t. (t.cursor ≡ t.resume) × (t.handled ≡ []) in
         (subst (λ t. t.live ≡ true) kept is_open, λ at none unheld. subst P (sym kept) (at, none))
@@ -129,61 +96,125 @@ known-rewound names states grains lengths known =
 
 -- ---- one grain changed
 
--- what stays as it was where the grain with a number changes
-module _ (grains : List (GrainId × PlainActivation)) (j : ℕ) (f : PlainActivation → PlainActivation) where
-  pub changed-back : (k : ℕ) → k < length (change_at f j grains) → k < length grains
-  changed-back k within = omega (arith, within, length-change_at f j grains)
+-- the new grains are the old ones with the activation with a number changed, which may be the next number
+pub record Becomes (old new : List (GrainId × PlainActivation)) (j : ℕ) (f : PlainActivation → PlainActivation) : Type 0 where
+  pub inside : j < length new
+  pub here : activation_at new j ≡ f (activation_at old j)
+  pub others : (k : ℕ) → ((k ≡ j) ⊎ (activation_at new k ≡ activation_at old k))
+  pub forth : (k : ℕ) → k < length old → (k < length new) × (grain_at new k ≡ grain_at old k)
 
-  pub changed-forth : (k : ℕ) → k < length grains → k < length (change_at f j grains)
-  changed-forth k within = omega (arith, within, length-change_at f j grains)
+pub becomes-changed : (grains : List (GrainId × PlainActivation)) (j : ℕ) (f : PlainActivation → PlainActivation) → j < length grains → Becomes grains (change_at f j grains) j f
+becomes-changed grains j f inside = record {
+  inside = omega (arith, inside, length-change_at f j grains);
+  here = ap (λ (e : GrainId × PlainActivation). e.1) (changed-here f j grains inside);
+  others = λ k. other k (cases_eq k j);
+  forth = λ k within. (omega (arith, within, length-change_at f j grains), grain k (cases_eq k j));
+}
+  where
+    other : (k : ℕ) → ((k ≡ j) ⊎ (k ≢ j)) → ((k ≡ j) ⊎ (activation_at (change_at f j grains) k ≡ activation_at grains k))
+    other k (inl same) = inl same
+    other k (inr differs) = inr (ap (λ (e : GrainId × PlainActivation). e.1) (changed-other f j k grains inside differs))
 
-  pub changed-grain : j < length grains → (k : ℕ) → grain_at (change_at f j grains) k ≡ grain_at grains k
-  changed-grain inside k = by (same-or k j)
-    where
-      by : Either (k ≡ j) (k ≢ j) → grain_at (change_at f j grains) k ≡ grain_at grains k
-      by (Left same) = ap (grain_at (change_at f j grains)) same ∙ ap (λ (e : GrainId × PlainActivation). e.0) (changed-here f j grains no_grain inside) ∙ ap (grain_at grains) (sym same)
-      by (Right other) = ap (λ (e : GrainId × PlainActivation). e.0) (changed-other f j k grains no_grain other)
+    grain : (k : ℕ) → ((k ≡ j) ⊎ (k ≢ j)) → grain_at (change_at f j grains) k ≡ grain_at grains k
+    grain k (inl same) =
+        subst (λ m. grain_at (change_at f j grains) m ≡ grain_at grains m) (sym same) (ap (λ (e : GrainId × PlainActivation). e.0) (changed-here f j grains inside))
+    grain k (inr differs) = ap (λ (e : GrainId × PlainActivation). e.0) (changed-other f j k grains inside differs)
 
-  pub changed-of : (names : List (SubName × Registration)) → j < length grains → (k n : ℕ) → IsOf names grains n k → IsOf names (change_at f j grains) n k
-  changed-of names inside k n is = subst (λ (g : GrainId). same_grain (get_or names n no_entry).1.grain g ≡ true) (sym (changed-grain inside k)) is
+pub becomes-added : (grains : List (GrainId × PlainActivation)) (g : GrainId) (f : PlainActivation → PlainActivation) → Becomes grains (grains ++ (g, f new_activation) ∷ []) (length grains) f
+becomes-added grains g f = record {
+  inside = omega (arith, length-append grains ((g, f new_activation) ∷ []));
+  here = here grains;
+  others = others grains;
+  forth = λ k within. (
+    omega (arith, within, length-append grains ((g, f new_activation) ∷ [])),
+    ap (λ (e : GrainId × PlainActivation). e.0) (get_or_append_left grains ((g, f new_activation) ∷ []) no_grain k within),
+  );
+}
+  where
+    here : (grains : List (GrainId × PlainActivation)) → activation_at (grains ++ (g, f new_activation) ∷ []) (length grains) ≡ f (activation_at grains (length grains))
+    here [] = refl
+    here (e ∷ grains) = here grains
 
-  pub of-changed : (names : List (SubName × Registration)) → j < length grains → (k n : ℕ) → IsOf names (change_at f j grains) n k → IsOf names grains n k
-  of-changed names inside k n is = subst (λ (g : GrainId). same_grain (get_or names n no_entry).1.grain g ≡ true) (changed-grain inside k) is
+    others : (grains : List (GrainId × PlainActivation)) (k : ℕ) → ((k ≡ length grains) ⊎ (activation_at (grains ++ (g, f new_activation) ∷ []) k ≡ activation_at grains k))
+    others [] zero = inl refl
+    others [] (suc k) = inr refl
+    others (e ∷ grains) zero = inr refl
+    others (e ∷ grains) (suc k) = next (others grains k)
+      where
+        next : {A : Type 0} → ((k ≡ length grains) ⊎ A) → ((suc k ≡ suc (length grains)) ⊎ A)
+        next (inl same) = inl (ap suc same)
+        next (inr kept) = inr kept
+
+-- what holds of the changed activation and of each that stays holds of each
+each : {old new : List (GrainId × PlainActivation)} {j : ℕ} {f : PlainActivation → PlainActivation} → Becomes old new j f → (P : ℕ → PlainActivation → PlainActivation → Type 0)
+    → P j (activation_at old j) (f (activation_at old j)) → ((k : ℕ) → P k (activation_at old k) (activation_at old k)) → (k : ℕ) → P k (activation_at old k) (activation_at new k)
+each {old} {new} {j} {f} becomes P here kept k = by (becomes.others k)
+  where
+    by : ((k ≡ j) ⊎ (activation_at new k ≡ activation_at old k)) → P k (activation_at old k) (activation_at new k)
+    by (inl same) = subst (λ m. P m (activation_at old m) (activation_at new m)) (sym same) (subst (P j (activation_at old j)) (sym becomes.here) here)
+    by (inr same) = subst (P k (activation_at old k)) (sym same) (kept k)
+
+-- there is nothing beyond the last
+beyond : (grains : List (GrainId × PlainActivation)) (k : ℕ) → ((k < length grains) ⊎ (activation_at grains k ≡ new_activation))
+beyond [] k = inr refl
+beyond (g ∷ grains) zero = inl (omega arith)
+beyond (g ∷ grains) (suc k) = next (beyond grains k)
+  where
+    next : ((k < length grains) ⊎ (activation_at grains k ≡ new_activation)) → ((suc k < suc (length grains)) ⊎ (activation_at grains k ≡ new_activation))
+    next (inl within) = inl (omega (arith, within))
+    next (inr none) = inr none
+
+-- The grain knows one record more at most, one of its own, and forgets and gets no other than the one with the number i.
+-- The states of the others stay.
+pub known-becomes : {names : List (SubName × Registration)} {states : List SubState} (others : List SubState) {old new : List (GrainId × PlainActivation)} {j : ℕ} {f : PlainActivation → PlainActivation} (i : ℕ) → AreKnown names states old → Becomes old new j f
+    → ((n : ℕ) → is_in (f (activation_at old j)).subs n ≡ true → ((is_in (activation_at old j).subs n ≡ true) ⊎ ((n < length names) × IsOf names new n j)))
+    → ((n : ℕ) → n ≢ i → is_in (f (activation_at old j)).subs n ≡ false → is_in (activation_at old j).subs n ≡ false)
+    → ((n : ℕ) → n ≢ i → holds n (activation_at old j) ≡ false → holds n (f (activation_at old j)) ≡ false)
+    → ((n : ℕ) → n ≢ i → get_or others n no_state ≡ get_or states n no_state)
+    → (i < length names → (get_or others i no_state).live ≡ true → IsUnknown names new i → IsUntouched names others new i)
+    → AreKnown names others new
+known-becomes {names} {states} others {old} {new} {j} {f} i known becomes learns forgets gets stays own = record {
+  within = λ k n within is. (theirs k n (was k n is) (beyond old k)).0;
+  theirs = λ k n within is. (theirs k n (was k n is) (beyond old k)).1;
+  untouched = λ n within is_open unknown. untouched n within is_open unknown (cases_eq n i);
+}
+  where
+    was : (k n : ℕ) → is_in (activation_at new k).subs n ≡ true → ((is_in (activation_at old k).subs n ≡ true) ⊎ ((n < length names) × IsOf names new n k))
+    was = each becomes (λ k a b. (n : ℕ) → is_in b.subs n ≡ true → ((is_in a.subs n ≡ true) ⊎ ((n < length names) × IsOf names new n k))) learns (λ k n is. inl is)
+
+    of_new : (k n : ℕ) → k < length old → IsOf names old n k → IsOf names new n k
+    of_new k n within is = subst (λ (g : GrainId). same_grain (get_or names n no_entry).1.grain g ≡ true) (sym (becomes.forth k within).1) is
+
+    theirs : (k n : ℕ) → ((is_in (activation_at old k).subs n ≡ true) ⊎ ((n < length names) × IsOf names new n k)) → ((k < length old) ⊎ (activation_at old k ≡ new_activation)) → (n < length names) × IsOf names new n k
+    theirs k n (inl is) (inl before) = (known.within k n before is, of_new k n before (known.theirs k n before is))
+    theirs k n (inl is) (inr none) = absurd (false≢true (sym (ap (λ (a : PlainActivation). is_in a.subs n) none) ∙ is))
+    theirs k n (inr it) at_k = it
+
+    held : (n k : ℕ) → n ≢ i → IsUnheld names old n → IsOf names new n k → ((k < length old) ⊎ (activation_at old k ≡ new_activation)) → holds n (activation_at old k) ≡ false
+    held n k other unheld of_k (inl before) = unheld k before (subst (λ (g : GrainId). same_grain (get_or names n no_entry).1.grain g ≡ true) (becomes.forth k before).1 of_k)
+    held n k other unheld of_k (inr none) = ap (holds n) none
+
+    untouched : (n : ℕ) → n < length names → (get_or others n no_state).live ≡ true → IsUnknown names new n → ((n ≡ i) ⊎ (n ≢ i)) → IsUntouched names others new n
+    untouched n within is_open unknown (inl same) =
+        subst (IsUntouched names others new) (sym same)
+        (own (subst (λ m. m < length names) same within) (subst (λ m. (get_or others m no_state).live ≡ true) same is_open) (subst (IsUnknown names new) same unknown))
+    untouched n within is_open unknown (inr other) =
+        let forgotten = each becomes (λ k a b. is_in b.subs n ≡ false → is_in a.subs n ≡ false) (forgets n other) (λ k none. none) in
+        let got = each becomes (λ k a b. holds n a ≡ false → holds n b ≡ false) (gets n other) (λ k none. none) in
+        let old_one = known.untouched n within (subst (λ (s : SubState). s.live ≡ true) (stays n other) is_open) (λ k in_k of_k. forgotten k (unknown k (becomes.forth k in_k).0 (of_new k n in_k of_k))) in
+        let P : SubState → Type 0 = λ s. (s.cursor ≡ s.resume) × (s.handled ≡ []) in
+        let is : P (get_or others n no_state) = subst P (sym (stays n other)) (old_one.at_resume, old_one.unhandled) in
+        record { at_resume = is.0; unhandled = is.1; unheld = λ k in_k of_k. got k (held n k other old_one.unheld of_k (beyond old k)) }
 
 -- it knows the same and holds no more
 pub known-grain : (names : List (SubName × Registration)) (states : List SubState) (grains : List (GrainId × PlainActivation)) (j : ℕ) (f : PlainActivation → PlainActivation) → AreKnown names states grains → j < length grains
     → (f (activation_at grains j)).subs ≡ (activation_at grains j).subs
     → ((n : ℕ) → holds n (activation_at grains j) ≡ false → holds n (f (activation_at grains j)) ≡ false)
     → AreKnown names states (change_at f j grains)
-known-grain names states grains j f known inside knows holds_less = record {
-  within = λ k n within is. known.within k n (changed-back grains j f k within) (subst (λ (subs : List ℕ). is_in subs n ≡ true) (subs-same k) is);
-  theirs = λ k n within is. changed-of grains j f names inside k n (known.theirs k n (changed-back grains j f k within) (subst (λ (subs : List ℕ). is_in subs n ≡ true) (subs-same k) is));
-  untouched = λ n within is_open unknown.
-      let was = known.untouched n within is_open (λ k in_k of_k. subst (λ (subs : List ℕ). is_in subs n ≡ false) (subs-same k) (unknown k (changed-forth grains j f k in_k) (changed-of grains j f names inside k n of_k))) in
-      record {
-        at_resume = was.at_resume;
-        unhandled = was.unhandled;
-        unheld = λ k in_k of_k. held n k (was.unheld k (changed-back grains j f k in_k) (of-changed grains j f names inside k n of_k)) (same-or k j);
-      };
-}
-  where
-    New : List (GrainId × PlainActivation)
-    New = change_at f j grains
-
-    here : get_or New j no_grain ≡ ((get_or grains j no_grain).0, f (get_or grains j no_grain).1)
-    here = changed-here f j grains no_grain inside
-
-    subs-by : (k : ℕ) → Either (k ≡ j) (k ≢ j) → (activation_at New k).subs ≡ (activation_at grains k).subs
-    subs-by k (Left same) = ap (λ i. (activation_at New i).subs) same ∙ ap (λ (e : GrainId × PlainActivation). e.1.subs) here ∙ knows ∙ ap (λ i. (activation_at grains i).subs) (sym same)
-    subs-by k (Right other) = ap (λ (e : GrainId × PlainActivation). e.1.subs) (changed-other f j k grains no_grain other)
-
-    subs-same : (k : ℕ) → (activation_at New k).subs ≡ (activation_at grains k).subs
-    subs-same k = subs-by k (same-or k j)
-
-    held : (n k : ℕ) → holds n (activation_at grains k) ≡ false → Either (k ≡ j) (k ≢ j) → holds n (activation_at New k) ≡ false
-    held n k was (Left same) =
-        ap (λ i. holds n (activation_at New i)) same ∙ ap (λ (e : GrainId × PlainActivation). holds n e.1) here ∙ holds_less n (ap (λ i. holds n (activation_at grains i)) (sym same) ∙ was)
-    held n k was (Right other) = ap (λ (e : GrainId × PlainActivation). holds n e.1) (changed-other f j k grains no_grain other) ∙ was
+known-grain names states grains j f known inside knows holds_less =
+    known-becomes states (length names) known (becomes-changed grains j f inside)
+    (λ n is. inl (subst (λ (subs : List ℕ). is_in subs n ≡ true) knows is)) (λ n other none. subst (λ (subs : List ℕ). is_in subs n ≡ false) knows none)
+    (λ n other. holds_less n) (λ n other. refl) (λ within. absurd (omega (arith, within)))
 
 -- ---- numbers among others
 
@@ -195,13 +226,6 @@ pub or-map : (a b c : Bool) → (b ≡ true → c ≡ true) → (a || b) ≡ tru
 or-map true b c step is = refl
 or-map false b c step is = step is
 
-pub eqb-same : (n k : ℕ) → (n == k) ≡ true → n ≡ k
-eqb-same n k is = by (same-or n k)
-  where
-    by : Either (n ≡ k) (n ≢ k) → n ≡ k
-    by (Left same) = same
-    by (Right other) = absurd (false≢true (sym (ne_eqb n k other) ∙ is))
-
 with-number-in : (n : ℕ) (ms : List ℕ) → is_in (with_number n ms) n ≡ true
 with-number-in n [] = rw (eq-eqb n n refl) refl
 with-number-in n (m ∷ ms) = by (nat_lt n m) (n == m) refl (with-number-in n ms)
@@ -209,115 +233,38 @@ with-number-in n (m ∷ ms) = by (nat_lt n m) (n == m) refl (with-number-in n ms
     by : (less same : Bool) → (n == m) ≡ same → is_in (with_number n ms) n ≡ true
         → is_in (if less then n ∷ m ∷ ms else if same then m ∷ ms else m ∷ with_number n ms) n ≡ true
     by true same is rest = rw (eq-eqb n n refl) refl
-    by false true is rest = rw (eq-eqb m n (sym (eqb-same n m is))) refl
+    by false true is rest = rw (eq-eqb m n (sym (eqb-true n m is))) refl
     by false false is rest = or-right (m == n) (is_in (with_number n ms) n) rest
 
--- a number that was among them is among them still
-with-number-more : (n k : ℕ) (ms : List ℕ) → is_in ms k ≡ true → is_in (with_number n ms) k ≡ true
-with-number-more n k [] in_ms = absurd (cc)
-with-number-more n k (m ∷ ms) in_ms = by (nat_lt n m) (n == m) (m == k) refl (with-number-more n k ms) in_ms
+-- another number is among them where it was
+with-number-other : (n k : ℕ) (ms : List ℕ) → k ≢ n → is_in (with_number n ms) k ≡ is_in ms k
+with-number-other n k [] other = ap (λ b. b || false) (ne_eqb n k (λ same. other (sym same)))
+with-number-other n k (m ∷ ms) other = by (nat_lt n m) (n == m) (with-number-other n k ms other)
   where
-    by : (less same first : Bool) → (m == k) ≡ first → (is_in ms k ≡ true → is_in (with_number n ms) k ≡ true) → (first || is_in ms k) ≡ true
-        → is_in (if less then n ∷ m ∷ ms else if same then m ∷ ms else m ∷ with_number n ms) k ≡ true
-    by true same first is rest was = or-right (n == k) ((m == k) || is_in ms k) (ap (λ b. b || is_in ms k) is ∙ was)
-    by false true first is rest was = ap (λ b. b || is_in ms k) is ∙ was
-    by false false true is rest was = ap (λ b. b || is_in (with_number n ms) k) is
-    by false false false is rest was = or-right (m == k) (is_in (with_number n ms) k) (rest was)
-
--- and one that is among them was, or is the one that was put in
-with-number-back : (n k : ℕ) (ms : List ℕ) → k ≢ n → is_in (with_number n ms) k ≡ true → is_in ms k ≡ true
-with-number-back n k [] other is = by (n == k) refl is
-  where
-    by : (b : Bool) → (n == k) ≡ b → (b || false) ≡ true → false ≡ true
-    by true own in_it = absurd (other (sym (eqb-same n k own)))
-    by false own in_it = in_it
-with-number-back n k (m ∷ ms) other is = by (nat_lt n m) (n == m) (n == k) refl (m == k) (with-number-back n k ms other) is
-  where
-    by : (less same own : Bool) → (n == k) ≡ own → (first : Bool) → (is_in (with_number n ms) k ≡ true → is_in ms k ≡ true)
-        → (list_any (λ i. i == k) (if less then n ∷ m ∷ ms else if same then m ∷ ms else m ∷ with_number n ms)) ≡ true
-        → (m == k) || is_in ms k ≡ true
-    by less same true is' first rest is = absurd (other (sym (eqb-same n k is')))
-    by true same false is' first rest is = sym (ap (λ b. b || ((m == k) || is_in ms k)) is') ∙ is
-    by false true false is' first rest is = is
-    by false false false is' first rest is = or-map (m == k) (is_in (with_number n ms) k) (is_in ms k) rest is
+    by : (less same : Bool) → is_in (with_number n ms) k ≡ is_in ms k → is_in (if less then n ∷ m ∷ ms else if same then m ∷ ms else m ∷ with_number n ms) k ≡ is_in (m ∷ ms) k
+    by true same rest = ap (λ b. b || is_in (m ∷ ms) k) (ne_eqb n k (λ same. other (sym same)))
+    by false true rest = refl
+    by false false rest = ap (λ b. (m == k) || b) rest
 
 -- ---- a delivery more
 
-any-append : (n : ℕ) (ds : List Delivery) (d : Delivery) → (n == d.sub) ≡ false → list_any (λ (e : Delivery). n == e.sub) ds ≡ false → list_any (λ (e : Delivery). n == e.sub) (ds ++ d ∷ []) ≡ false
-any-append n [] d other none = ap (λ b. b || false) other
-any-append n (e ∷ ds) d other none = by (n == e.sub) none (any-append n ds d other)
-  where
-    by : (b : Bool) → (b || list_any (λ (e : Delivery). n == e.sub) ds) ≡ false → (list_any (λ (e : Delivery). n == e.sub) ds ≡ false → list_any (λ (e : Delivery). n == e.sub) (ds ++ d ∷ []) ≡ false)
-        → (b || list_any (λ (e : Delivery). n == e.sub) (ds ++ d ∷ [])) ≡ false
-    by true was rest = absurd (cc)
-    by false was rest = rest was
-
-pub or-none : (a b : Bool) → (a || b) ≡ false → (a ≡ false) × (b ≡ false)
-or-none true b is = absurd (cc)
-or-none false b is = (refl, is)
-
-pub none-or : (a b : Bool) → a ≡ false → b ≡ false → (a || b) ≡ false
-none-or a b is is' = ap (λ c. c || b) is ∙ is'
-
 holds-woken : (n : ℕ) (a : PlainActivation) (d : Delivery) → n ≢ d.sub → holds n a ≡ false → holds n (woken a d) ≡ false
 holds-woken n a d other was =
-    let parts = or-none (list_any (λ (e : Delivery). n == e.sub) a.mailbox) (runs n a.running) was in
-    none-or (list_any (λ (e : Delivery). n == e.sub) (a.mailbox ++ d ∷ [])) (runs n a.running) (any-append n a.mailbox d (ne_eqb n d.sub other) parts.0) parts.1
+    let parts = or_parts (list_any (λ (e : Delivery). n == e.sub) a.mailbox) (runs n a.running) was in
+    or_from (list_any (λ (e : Delivery). n == e.sub) (a.mailbox ++ d ∷ [])) (runs n a.running)
+    (list_any-append (λ (e : Delivery). n == e.sub) a.mailbox (d ∷ []) ∙ or_from _ _ parts.0 (or_from _ _ (ne_eqb n d.sub other) refl)) parts.1
 
--- to a grain that has a number; whatever the state of its record becomes
-pub known-offered : (names : List (SubName × Registration)) (states : List SubState) (grains : List (GrainId × PlainActivation)) (i j : ℕ) (s : SubState) (d : Delivery) → AreKnown names states grains → i < length names → j < length grains → d.sub ≡ i → IsOf names grains i j
-    → AreKnown names (set states i s) (change_at (λ a. woken a d) j grains)
-known-offered names states grains i j s d known within_i inside is_sub its = record {
-  within = λ k n within is. within_by k n (changed-back grains j (λ a. woken a d) k within) is (same-or k j) (same-or n i);
-  theirs = λ k n within is. of_by k n (changed-back grains j (λ a. woken a d) k within) is (same-or k j) (same-or n i);
-  untouched = λ n within is_open unknown. untouched_by n within is_open unknown (same-or n i);
-}
+-- of a record of the grain; whatever the record's state becomes
+pub known-woken : {names : List (SubName × Registration)} {states : List SubState} {old new : List (GrainId × PlainActivation)} {j : ℕ} (s : SubState) (d : Delivery) → AreKnown names states old → Becomes old new j (λ a. woken a d) → d.sub < length names → IsOf names new d.sub j
+    → AreKnown names (set states d.sub s) new
+known-woken {names} {states} {old} {new} {j} s d known becomes within its =
+    known-becomes (set states d.sub s) d.sub known becomes (λ n is. learns n is (cases_eq n d.sub)) (λ n other none. sym (with-number-other d.sub n a.subs other) ∙ none)
+    (λ n other. holds-woken n a d other) (λ n other. get_or-set_other states d.sub n s no_state other)
+    (λ numbered is_open unknown. absurd (false≢true (sym (unknown j becomes.inside its) ∙ ap (λ (b : PlainActivation). is_in b.subs d.sub) becomes.here ∙ with-number-in d.sub a.subs)))
   where
-    New : List (GrainId × PlainActivation)
-    New = change_at (λ a. woken a d) j grains
+    a : PlainActivation
+    a = activation_at old j
 
-    here : get_or New j no_grain ≡ ((get_or grains j no_grain).0, woken (get_or grains j no_grain).1 d)
-    here = changed-here (λ a. woken a d) j grains no_grain inside
-
-    subs-here : (k : ℕ) → k ≡ j → (activation_at New k).subs ≡ with_number i (activation_at grains k).subs
-    subs-here k same =
-        ap (λ m. (activation_at New m).subs) same ∙ ap (λ (e : GrainId × PlainActivation). e.1.subs) here
-        ∙ ap (λ m. with_number m (activation_at grains j).subs) is_sub ∙ ap (λ m. with_number i (activation_at grains m).subs) (sym same)
-
-    was_in : (k n : ℕ) → is_in (activation_at New k).subs n ≡ true → Either (k ≡ j) (k ≢ j) → n ≢ i → is_in (activation_at grains k).subs n ≡ true
-    was_in k n is (Left same) other = with-number-back i n (activation_at grains k).subs other (subst (λ (subs : List ℕ). is_in subs n ≡ true) (subs-here k same) is)
-    was_in k n is (Right other_k) other = subst (λ (e : GrainId × PlainActivation). is_in e.1.subs n ≡ true) (changed-other (λ a. woken a d) j k grains no_grain other_k) is
-
-    within_by : (k n : ℕ) → k < length grains → is_in (activation_at New k).subs n ≡ true → Either (k ≡ j) (k ≢ j) → Either (n ≡ i) (n ≢ i) → n < length names
-    within_by k n within is at_k (Left own) = subst (λ m. m < length names) (sym own) within_i
-    within_by k n within is at_k (Right other) = known.within k n within (was_in k n is at_k other)
-
-    of_by : (k n : ℕ) → k < length grains → is_in (activation_at New k).subs n ≡ true → Either (k ≡ j) (k ≢ j) → Either (n ≡ i) (n ≢ i) → IsOf names New n k
-    of_by k n within is at_k (Right other) = changed-of grains j (λ a. woken a d) names inside k n (known.theirs k n within (was_in k n is at_k other))
-    of_by k n within is (Left same) (Left own) = changed-of grains j (λ a. woken a d) names inside k n (subst (λ m. IsOf names grains m k) (sym own) (subst (IsOf names grains i) (sym same) its))
-    of_by k n within is (Right other_k) (Left own) = changed-of grains j (λ a. woken a d) names inside k n (known.theirs k n within (subst (λ (e : GrainId × PlainActivation). is_in e.1.subs n ≡ true) (changed-other (λ a. woken a d) j k grains no_grain other_k) is))
-
-    not_in : (k n : ℕ) → is_in (activation_at New k).subs n ≡ false → Either (k ≡ j) (k ≢ j) → (b : Bool) → is_in (activation_at grains k).subs n ≡ b → b ≡ false
-    not_in k n none at_k false is = refl
-    not_in k n none (Left same) true is =
-        absurd (false≢true (sym none ∙ ap (λ (subs : List ℕ). is_in subs n) (subs-here k same) ∙ with-number-more i n (activation_at grains k).subs is))
-    not_in k n none (Right other) true is = absurd (false≢true (sym none ∙ ap (λ (e : GrainId × PlainActivation). is_in e.1.subs n) (changed-other (λ a. woken a d) j k grains no_grain other) ∙ is))
-
-    held : (n k : ℕ) → n ≢ i → holds n (activation_at grains k) ≡ false → Either (k ≡ j) (k ≢ j) → holds n (activation_at New k) ≡ false
-    held n k other was (Left same) =
-        ap (λ m. holds n (activation_at New m)) same ∙ ap (λ (e : GrainId × PlainActivation). holds n e.1) here
-        ∙ holds-woken n (activation_at grains j) d (λ is. other (is ∙ is_sub)) (ap (λ m. holds n (activation_at grains m)) (sym same) ∙ was)
-    held n k other was (Right other_k) = ap (λ (e : GrainId × PlainActivation). holds n e.1) (changed-other (λ a. woken a d) j k grains no_grain other_k) ∙ was
-
-    untouched_by : (n : ℕ) → n < length names → (get_or (set states i s) n no_state).live ≡ true → IsUnknown names New n → Either (n ≡ i) (n ≢ i) → IsUntouched names (set states i s) New n
-    untouched_by n within is_open unknown (Left own) =
-        absurd (false≢true (sym (unknown j (changed-forth grains j (λ a. woken a d) j inside) (changed-of grains j (λ a. woken a d) names inside j n (subst (λ m. IsOf names grains m j) (sym own) its)))
-        ∙ ap (λ (subs : List ℕ). is_in subs n) (subs-here j refl) ∙ ap (λ m. is_in (with_number i (activation_at grains j).subs) m) own ∙ with-number-in i (activation_at grains j).subs))
-    untouched_by n within is_open unknown (Right other) =
-        let kept : get_or (set states i s) n no_state ≡ get_or states n no_state = get_or-set_other states i n s no_state other in
-        let was = known.untouched n within (subst (λ t. t.live ≡ true) kept is_open) (λ k in_k of_k. not_in k n (unknown k (changed-forth grains j (λ a. woken a d) k in_k) (changed-of grains j (λ a. woken a d) names inside k n of_k)) (same-or k j) (is_in (activation_at grains k).subs n) refl) in
-        record {
-          at_resume = ap (λ t. t.cursor) kept ∙ was.at_resume ∙ sym (ap (λ t. t.resume) kept);
-          unhandled = ap (λ t. t.handled) kept ∙ was.unhandled;
-          unheld = λ k in_k of_k. held n k other (was.unheld k (changed-back grains j (λ a. woken a d) k in_k) (of-changed grains j (λ a. woken a d) names inside k n of_k)) (same-or k j);
-        }
+    learns : (n : ℕ) → is_in (with_number d.sub a.subs) n ≡ true → ((n ≡ d.sub) ⊎ (n ≢ d.sub)) → ((is_in a.subs n ≡ true) ⊎ ((n < length names) × IsOf names new n j))
+    learns n is (inl same) = inr (subst (λ m. (m < length names) × IsOf names new m j) (sym same) (within, its))
+    learns n is (inr other) = inl (sym (with-number-other d.sub n a.subs other) ∙ is)

@@ -1,40 +1,23 @@
 -- What grains know where records are added, where turns begin and end, and where a grain leaves memory.
-use Rattle.std.proofs.Common.{◌≡◌, ◌∙◌, ap, sym, subst, refl, ℕ, zero, suc, ◌+◌, ◌-◌, ◌<◌, ◌≤◌, Bool, true, false, ◌&&◌, not, List, [], ◌∷◌, ◌++◌, length, drop, get_or, Option, Some, None, nat_lt, arith}
-use Rattle.std.proofs.lemmas.Bool.{false≢true, ne_eqb}
-use Rattle.std.proofs.lemmas.List.{get_or-append-add, get_or-map, get_or_append_left, length-append}
-use Rattle.std.specs.List.{AllByRecursion, list_any}
-use Rattle.std.specs.Prelude.{if◌then◌else◌, ◌==◌, is_some}
-use Rattle.stream_ident.specs.declared.ident.GrainId.{GrainId}
-use Rattle.stream_ident.specs.declared.ident.SubName.{SubName}
-use Rattle.stream_ident.specs.Name.{same_grain}
-use Rattle.stream_ident.specs.Words.{place_of}
-use Rattle.stream_model.proofs.Lookups.{place_of-within}
-use Rattle.stream_ident.proofs.SameValues.{same_grain-equal, same_grain-refl}
-use Rattle.stream_model.specs.Pulling.{rewound_where}
-use Rattle.consumer_grain.specs.Activations.{PlainActivation, begin, begin_front, begin_turn, front_of, holds, runs}
-use Rattle.stream_ident.specs.Blocks.{turn_size}
-use Rattle.consumer_grain.specs.declared.mailbox.Delivery.{Delivery}
-use Rattle.consumer_grain.specs.declared.activation.RunningTurn.{RunningTurn}
-use Rattle.consumer_grain.specs.declared.sub_state.SubState.{SubState}
-use Rattle.grain_table.specs.Changes.{activation_at, grain_at, no_grain}
+use Rattle.step_core.proofs.Prelude.{PlainActivation, front_of, holds, runs, RunningTurn, Delivery, SubState, Begun, activation_at, no_grain, Registration, ◌≡◌, ◌⊎◌, ◌∙◌, ap, sym, subst, refl, ℕ, zero, suc, ◌+◌, ◌-◌, ◌<◌, ◌≤◌, Bool, true, false, ◌&&◌, not, List, [], ◌∷◌, ◌++◌, length, drop, get_or, Option, Some, None, nat_lt, arith, inl, inr, cases_lt, cond_both, false≢true, ne_eqb, or_from, or_parts, get_or-append-add, get_or-map, get_or_append_left, length-append, AllByRecursion, list_any, if◌then◌else◌, is_some, place_of-key, same_grain-equal, same_grain-refl, All-at, turn_size, same_grain, place_of, GrainId, SubName, place_of-within, rewound_where, is_open_of, PlainTable, is_in, new_states, no_entry, no_state, rewound_open, state_at, AreRewound}
+use Rattle.std.specs.Prelude.{◌==◌}
+use Rattle.consumer_grain.specs.Activations.{begin, begin_front, begin_turn}
+use Rattle.consumer_grain.specs.declared.told.Begun.TheVariants as begun
+use Rattle.grain_table.specs.Changes.{grain_at}
 use Rattle.grain_table.specs.Grains as table
-use Rattle.pubsub_registry.specs.declared.registration.Registration.{Registration}
-use Rattle.subscription_table.specs.Table.{PlainTable, is_in, new_states, no_entry, no_state, rewound_open, state_at, AreRewound}
-use Rattle.stream_ident.proofs.FirstLemmas.{place_of-key}
-use Rattle.stream_model.specs.Turns.{is_open_of}
 use Rattle.step_core.specs.declared.parts.Parts.{Parts}
 use Rattle.step_core.specs.Known.{AreKnown, IsOf, IsUnknown, IsUntouched}
 use Rattle.step_core.specs.Numbers.{IsBelow, TurnIsBelow}
 use Rattle.step_core.specs.View.{sub_of}
 use Rattle.step_core.proofs.DeactivateOps as deactivating
-use Rattle.step_core.proofs.KnownOps.{Either, Left, Right, known-states, none-or, or-none, unknown-to_own}
+use Rattle.step_core.proofs.KnownOps.{known-states, unknown-to_own}
 
 -- ---- records more
 
 mail-below : (m n : ℕ) (ds : List Delivery) → m ≤ n → AllByRecursion (λ (d : Delivery). d.sub < m) ds → list_any (λ (d : Delivery). n == d.sub) ds ≡ false
 mail-below m n [] le below = refl
 mail-below m n (d ∷ ds) le below =
-    none-or (n == d.sub) (list_any (λ (e : Delivery). n == e.sub) ds) (ne_eqb n d.sub (λ same. absurd (omega (arith, same, below.0, le)))) (mail-below m n ds le below.1)
+    or_from (n == d.sub) (list_any (λ (e : Delivery). n == e.sub) ds) (ne_eqb n d.sub (λ same. absurd (omega (arith, same, below.0, le)))) (mail-below m n ds le below.1)
 
 runs-below : (m n : ℕ) (running : Option RunningTurn) → m ≤ n → TurnIsBelow m running → runs n running ≡ false
 runs-below m n None le below = refl
@@ -42,12 +25,7 @@ runs-below m n (Some run) le below = ne_eqb n run.sub (λ same. absurd (omega (a
 
 holds-below : (m n : ℕ) (a : PlainActivation) → m ≤ n → IsBelow m a → holds n a ≡ false
 holds-below m n a le below =
-    none-or (list_any (λ (d : Delivery). n == d.sub) a.mailbox) (runs n a.running) (mail-below m n a.mailbox le below.waiting) (runs-below m n a.running le below.running)
-
-below-at : (m j : ℕ) (grains : List (GrainId × PlainActivation)) → j < length grains → AllByRecursion (λ (e : GrainId × PlainActivation). IsBelow m e.1) grains → IsBelow m (activation_at grains j)
-below-at m j [] within all = absurd (omega (arith, within))
-below-at m zero (e ∷ grains) within all = all.0
-below-at m (suc j) (e ∷ grains) within all = below-at m j grains (omega (arith, within)) all.1
+    or_from (list_any (λ (d : Delivery). n == d.sub) a.mailbox) (runs n a.running) (mail-below m n a.mailbox le below.waiting) (runs-below m n a.running le below.running)
 
 -- records that have handled nothing, at a position
 pub known-grown : (names entries : List (SubName × Registration)) (states : List SubState) (position : ℕ) (grains : List (GrainId × PlainActivation)) → AreKnown names states grains → length states ≡ length names
@@ -56,20 +34,11 @@ pub known-grown : (names entries : List (SubName × Registration)) (states : Lis
 known-grown names entries states position grains known lengths below = record {
   within = λ k n within is. let old = known.within k n within is in omega (arith, old, long);
   theirs = λ k n within is. of_there k n (known.within k n within is) (known.theirs k n within is);
-  untouched = λ n within is_open unknown. by n within is_open unknown (side n (length names));
+  untouched = λ n within is_open unknown. by n within is_open unknown (cases_lt n (length names));
 }
   where
     long : length (names ++ entries) ≡ length names + length entries
     long = length-append names entries
-
-    side : (a b : ℕ) → Either (a < b) (b ≤ a)
-    side a zero = Right (omega arith)
-    side zero (suc b) = Left (omega arith)
-    side (suc a) (suc b) = next (side a b)
-      where
-        next : Either (a < b) (b ≤ a) → Either (suc a < suc b) (suc b ≤ suc a)
-        next (Left less) = Left (omega (arith, less))
-        next (Right le) = Right (omega (arith, le))
 
     of_there : (k n : ℕ) → n < length names → IsOf names grains n k → IsOf (names ++ entries) grains n k
     of_there k n within is = subst (λ (e : SubName × Registration). same_grain e.1.grain (grain_at grains k) ≡ true) (sym (get_or_append_left names entries no_entry n within)) is
@@ -90,8 +59,8 @@ known-grown names entries states position grains known lengths below = record {
         new_one : SubName × Registration → SubState
         new_one e = record { start = e.1.start; handled = []; note = 0; resume = position; cursor = position; live = true }
 
-    by : (n : ℕ) → n < length (names ++ entries) → (get_or New n no_state).live ≡ true → IsUnknown (names ++ entries) grains n → Either (n < length names) (length names ≤ n) → IsUntouched (names ++ entries) New grains n
-    by n within is_open unknown (Left old) =
+    by : (n : ℕ) → n < length (names ++ entries) → (get_or New n no_state).live ≡ true → IsUnknown (names ++ entries) grains n → ((n < length names) ⊎ (length names ≤ n)) → IsUntouched (names ++ entries) New grains n
+    by n within is_open unknown (inl old) =
         let kept : get_or New n no_state ≡ get_or states n no_state = get_or_append_left states (new_states position entries) no_state n (omega (arith, old, lengths)) in
         let was = known.untouched n old (subst (λ s. s.live ≡ true) kept is_open) (λ k in_k of_k. unknown k in_k (of_there k n old of_k)) in
         record {
@@ -99,68 +68,49 @@ known-grown names entries states position grains known lengths below = record {
           unhandled = ap (λ s. s.handled) kept ∙ was.unhandled;
           unheld = λ k in_k of_k. was.unheld k in_k (of_back k n old of_k);
         }
-    by n within is_open unknown (Right past) =
+    by n within is_open unknown (inr past) =
         let is = is_new n past within in
-        record { at_resume = is.0; unhandled = is.1; unheld = λ k in_k of_k. holds-below (length names) n (activation_at grains k) past (below-at (length names) k grains in_k below) }
+        record { at_resume = is.0; unhandled = is.1; unheld = λ k in_k of_k. holds-below (length names) n (activation_at grains k) past (All-at (λ (e : GrainId × PlainActivation). IsBelow (length names) e.1) grains k no_grain below in_k) }
 
 -- ---- turns
 
 any-dropped : (p : Delivery → Bool) (k : ℕ) (ds : List Delivery) → list_any p ds ≡ false → list_any p (drop k ds) ≡ false
 any-dropped p zero ds none = none
 any-dropped p (suc k) [] none = refl
-any-dropped p (suc k) (d ∷ ds) none = any-dropped p k ds (or-none (p d) (list_any p ds) none).1
+any-dropped p (suc k) (d ∷ ds) none = any-dropped p k ds (or_parts (p d) (list_any p ds) none).1
 
-begin-turn-holds : (n : ℕ) (a : PlainActivation) (d : Delivery) (ds : List Delivery) (positions : List ℕ) (turn : ℕ) → a.mailbox ≡ d ∷ ds → holds n a ≡ false → holds n (begin_turn a d.sub positions turn).0 ≡ false
-begin-turn-holds n a d ds positions turn front none =
-    let parts = or-none (list_any (λ (e : Delivery). n == e.sub) a.mailbox) (runs n a.running) none in
-    let first = or-none (n == d.sub) (list_any (λ (e : Delivery). n == e.sub) ds) (sym (ap (list_any (λ (e : Delivery). n == e.sub)) front) ∙ parts.0) in
-    none-or (list_any (λ (e : Delivery). n == e.sub) (drop (length positions) a.mailbox)) (n == d.sub) (any-dropped (λ e. n == e.sub) (length positions) a.mailbox parts.0) first.0
+-- a grain begins: it is busy, has nothing, drops its front delivery or begins a turn
+pub begin-any : (P : PlainActivation × Begun → Type 0) (a : PlainActivation) (past turn max_events : ℕ) → P (a, begun.Busy) → P (a, begun.Empty)
+    → ((d : Delivery) (ds : List Delivery) → a.mailbox ≡ d ∷ ds → P (record a { mailbox = ds }, begun.Dropped d))
+    → ((d : Delivery) (ds : List Delivery) → a.mailbox ≡ d ∷ ds → P (begin_turn a d.sub (front_of (turn_size max_events) d.sub d.position a.mailbox) turn))
+    → P (begin a past turn max_events)
+begin-any P a past turn max_events busy empty drops begins =
+    cond_both (is_some a.running) _ _ P (λ _. busy) (λ _. cond_both (not a.active) _ _ P (λ _. empty) (λ _. front a.mailbox refl))
+  where
+    front : (ds : List Delivery) → a.mailbox ≡ ds → P (begin_front a past turn (turn_size max_events) ds)
+    front [] is = empty
+    front (d ∷ ds) is = cond_both (nat_lt d.position past) _ _ P (λ _. drops d ds is) (λ _. begins d ds is)
 
-begin-front-holds : (n : ℕ) (a : PlainActivation) (past : ℕ) (turn : ℕ) (size : ℕ) (ds : List Delivery) → a.mailbox ≡ ds → holds n a ≡ false → holds n (begin_front a past turn size ds).0 ≡ false
-begin-front-holds n a past turn size [] mail none = none
-begin-front-holds n a past turn size (d ∷ ds) mail none = by (nat_lt d.position past)
+-- it holds no more, and knows the same
+pub begin-holds : (n : ℕ) (a : PlainActivation) (past : ℕ) (turn : ℕ) (max_events : ℕ) → holds n a ≡ false → holds n (begin a past turn max_events).0 ≡ false
+begin-holds n a past turn max_events none =
+    begin-any (λ out. holds n out.0 ≡ false) a past turn max_events none none
+    (λ d ds is. or_from (list_any (λ (e : Delivery). n == e.sub) ds) (runs n a.running) (front d ds is).1 parts.1)
+    (λ d ds is. or_from (list_any (λ (e : Delivery). n == e.sub) (drop (length (front_of (turn_size max_events) d.sub d.position a.mailbox)) a.mailbox)) (n == d.sub)
+    (any-dropped (λ e. n == e.sub) (length (front_of (turn_size max_events) d.sub d.position a.mailbox)) a.mailbox parts.0) (front d ds is).0)
   where
     parts : (list_any (λ (e : Delivery). n == e.sub) a.mailbox ≡ false) × (runs n a.running ≡ false)
-    parts = or-none (list_any (λ (e : Delivery). n == e.sub) a.mailbox) (runs n a.running) none
+    parts = or_parts (list_any (λ (e : Delivery). n == e.sub) a.mailbox) (runs n a.running) none
 
-    first : ((n == d.sub) ≡ false) × (list_any (λ (e : Delivery). n == e.sub) ds ≡ false)
-    first = or-none (n == d.sub) (list_any (λ (e : Delivery). n == e.sub) ds) (sym (ap (list_any (λ (e : Delivery). n == e.sub)) mail) ∙ parts.0)
-
-    by : (b : Bool) → holds n (if b then (record a { mailbox = ds }, Rattle.consumer_grain.specs.declared.told.Begun.TheVariants.Dropped d) else begin_turn a d.sub (front_of size d.sub d.position a.mailbox) turn).0 ≡ false
-    by true = none-or (list_any (λ (e : Delivery). n == e.sub) ds) (runs n a.running) first.1 parts.1
-    by false = begin-turn-holds n a d ds (front_of size d.sub d.position a.mailbox) turn mail none
-
--- a grain that begins a turn holds no more, and knows the same
-pub begin-holds : (n : ℕ) (a : PlainActivation) (past : ℕ) (turn : ℕ) (max_events : ℕ) → holds n a ≡ false → holds n (begin a past turn max_events).0 ≡ false
-begin-holds n a past turn max_events none = by (is_some a.running) a.active
-  where
-    by : (busy active : Bool) → holds n (if busy then (a, Rattle.consumer_grain.specs.declared.told.Begun.TheVariants.Busy) else if not active then (a, Rattle.consumer_grain.specs.declared.told.Begun.TheVariants.Empty) else begin_front a past turn (turn_size max_events) a.mailbox).0 ≡ false
-    by true active = none
-    by false false = none
-    by false true = begin-front-holds n a past turn (turn_size max_events) a.mailbox refl none
-
-begin-turn-subs : (a : PlainActivation) (sub : ℕ) (positions : List ℕ) (turn : ℕ) → (begin_turn a sub positions turn).0.subs ≡ a.subs
-begin-turn-subs a sub positions turn = refl
-
-begin-front-subs : (a : PlainActivation) (past : ℕ) (turn : ℕ) (size : ℕ) (ds : List Delivery) → (begin_front a past turn size ds).0.subs ≡ a.subs
-begin-front-subs a past turn size [] = refl
-begin-front-subs a past turn size (d ∷ ds) = by (nat_lt d.position past)
-  where
-    by : (b : Bool) → (if b then (record a { mailbox = ds }, Rattle.consumer_grain.specs.declared.told.Begun.TheVariants.Dropped d) else begin_turn a d.sub (front_of size d.sub d.position a.mailbox) turn).0.subs ≡ a.subs
-    by true = refl
-    by false = begin-turn-subs a d.sub (front_of size d.sub d.position a.mailbox) turn
+    front : (d : Delivery) (ds : List Delivery) → a.mailbox ≡ d ∷ ds → ((n == d.sub) ≡ false) × (list_any (λ (e : Delivery). n == e.sub) ds ≡ false)
+    front d ds is = or_parts (n == d.sub) (list_any (λ (e : Delivery). n == e.sub) ds) (sym (ap (list_any (λ (e : Delivery). n == e.sub)) is) ∙ parts.0)
 
 pub begin-subs : (a : PlainActivation) (past : ℕ) (turn : ℕ) (max_events : ℕ) → (begin a past turn max_events).0.subs ≡ a.subs
-begin-subs a past turn max_events = by (is_some a.running) a.active
-  where
-    by : (busy active : Bool) → (if busy then (a, Rattle.consumer_grain.specs.declared.told.Begun.TheVariants.Busy) else if not active then (a, Rattle.consumer_grain.specs.declared.told.Begun.TheVariants.Empty) else begin_front a past turn (turn_size max_events) a.mailbox).0.subs ≡ a.subs
-    by true active = refl
-    by false false = refl
-    by false true = begin-front-subs a past turn (turn_size max_events) a.mailbox
+begin-subs a past turn max_events = begin-any (λ out. out.0.subs ≡ a.subs) a past turn max_events refl refl (λ d ds is. refl) (λ d ds is. refl)
 
 -- a turn that ends isn't held any more
 pub ended-holds : (n : ℕ) (a : PlainActivation) → holds n a ≡ false → holds n (record a { running = None }) ≡ false
-ended-holds n a none = none-or (list_any (λ (e : Delivery). n == e.sub) a.mailbox) false (or-none (list_any (λ (e : Delivery). n == e.sub) a.mailbox) (runs n a.running) none).0 refl
+ended-holds n a none = or_from (list_any (λ (e : Delivery). n == e.sub) a.mailbox) false (or_parts (list_any (λ (e : Delivery). n == e.sub) a.mailbox) (runs n a.running) none).0 refl
 
 -- ---- a grain leaves memory
 

@@ -1,19 +1,8 @@
 -- The slowest subscription and those that are due, by their leaves.
-use Rattle.std.proofs.Common.{◌≡◌, ◌∙◌, ap, refl, ℕ, min, Bool, true, false, ◌&&◌, ◌||◌, List, [], ◌∷◌, map, filter, Option, Some, None, nat_lt, arith, is_some}
-use Rattle.std.specs.Prelude.{if◌then◌else◌, unwrap_or}
-use Rattle.stream_ident.specs.declared.ident.SubName.{SubName}
-use Rattle.stream_ident.specs.SubName.{sub_lt}
-use Rattle.stream_ident.specs.Words.{keys_where, least_with, next_after}
-use Rattle.stream_model.specs.declared.plain.Subscription.{Subscription}
-use Rattle.stream_model.specs.Looks.{is_due}
-use Rattle.stream_model.specs.Positions.{least_or, open_resumes, slowest}
-use Rattle.consumer_grain.specs.Subscriptions.{is_unacknowledged}
-use Rattle.consumer_grain.specs.declared.sub_state.SubState.{SubState}
+use Rattle.step_core.proofs.Prelude.{is_unacknowledged, SubState, Registration, ◌≡◌, ◌∙◌, ap, refl, ℕ, min, Bool, true, false, ◌&&◌, ◌||◌, List, [], ◌∷◌, map, filter, Option, Some, None, nat_lt, arith, if◌then◌else◌, unwrap_or, sub_lt, keys_where, least_with, next_after, SubName, is_due, least_or, open_resumes, slowest, Subscription, NamedLeaf, leaf_of, leaves_of, open_resume}
+use Rattle.std.proofs.Common.{is_some}
 use Rattle.ranked_index.specs.Keys.{lesser_key}
-use Rattle.pubsub_registry.specs.declared.registration.Registration.{Registration}
-use Rattle.subscription_table.specs.Leaves.{NamedLeaf}
 use Rattle.subscription_table.specs.Leaves as leaves
-use Rattle.subscription_table.specs.LeavesOf.{leaf_of, leaves_of, open_resume}
 use Rattle.step_core.specs.declared.parts.Parts.{Parts}
 use Rattle.step_core.specs.PlainOf.{plain_of}
 use Rattle.step_core.specs.View.{sub_of, subs_of}

@@ -1,17 +1,7 @@
 -- A grain leaves memory, done by the parts.
-use Rattle.std.proofs.Common.{◌≡◌, ◌∙◌, ap, sym, subst, refl, ℕ, ◌<◌, true, not, length, Some, arith}
-use Rattle.std.specs.Prelude.{if◌then◌else◌}
-use Rattle.std.specs.List.{AllByRecursion}
-use Rattle.stream_ident.specs.declared.ident.GrainId.{GrainId}
-use Rattle.stream_ident.specs.Words.{change_at}
-use Rattle.stream_model.specs.declared.plain.PlainPartition.{PlainPartition}
-use Rattle.stream_model.specs.Replies.{Reply}
+use Rattle.step_core.proofs.Prelude.{PlainActivation, deactivated, lost, activation_at, no_grain, AreDistinct, PlainGrains, number_of, ◌≡◌, ◌∙◌, ap, sym, subst, refl, ℕ, ◌<◌, true, not, length, Some, arith, AllByRecursion, if◌then◌else◌, change_at, GrainId, Reply, PlainPartition, PlainTable, AreRewound}
 use Rattle.stream_model.specs.declared.reply.Reply.TheVariants as reply
 use Rattle.stream_model.specs.Turns as plain
-use Rattle.consumer_grain.specs.Activations.{PlainActivation, deactivated, lost}
-use Rattle.grain_table.specs.Changes.{activation_at, no_grain}
-use Rattle.grain_table.specs.Grains.{AreDistinct, PlainGrains, number_of}
-use Rattle.subscription_table.specs.Table.{PlainTable, AreRewound}
 use Rattle.step_core.specs.Assembly.{IsAssembled}
 use Rattle.step_core.specs.Known.{AreKnown}
 use Rattle.step_core.specs.Numbers.{IsBelow}

@@ -53,10 +53,10 @@ pub mod SettledOps
 pub mod Shared
 pub mod SortedOnce
 pub mod StartOps
-pub mod StepPairs
 pub mod SubscribeOps
 pub mod SubscriberOps
 pub mod SummaryLemmas
 pub mod TakeOps
 pub mod TurnOps
 pub mod ViewLemmas
+pub mod Prelude

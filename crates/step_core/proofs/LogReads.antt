@@ -1,7 +1,5 @@
 -- Where the cache lies in the log.
-use Rattle.std.proofs.Common.{◌≤◌, length, arith}
-use Rattle.stream_model.specs.Step.{IsReached}
-use Rattle.queue_cache.specs.Cache.{high}
+use Rattle.step_core.proofs.Prelude.{high, ◌≤◌, length, arith, IsReached}
 use Rattle.step_core.specs.declared.parts.Parts.{Parts}
 use Rattle.step_core.specs.PlainOf.{plain_of}
 use Rattle.step_core.proofs.Shared.{history-of}

@@ -1,35 +1,17 @@
 -- What is asked, by the numbers of grains and of records.
-use Rattle.std.proofs.Common.{◌≡◌, ◌∙◌, ap, sym, subst, refl, ℕ, ◌<◌, Bool, true, false, ◌&&◌, not, List, [], ◌∷◌, length, map, filter, Option, Some, None, pred, nat_lt, arith}
-use Rattle.std.specs.Prelude.{if◌then◌else◌}
-use Rattle.std.specs.List.{AllByRecursion}
-use Rattle.std.proofs.lemmas.List.{length-map}
-use Rattle.stream_ident.specs.declared.ident.GrainId.{GrainId}
-use Rattle.stream_ident.specs.declared.ident.SubName.{SubName}
-use Rattle.stream_ident.specs.declared.token.Token.{Token}
-use Rattle.stream_ident.specs.Name.{grain_lt}
-use Rattle.stream_ident.specs.Words.{keys_where, least, next_after, past}
-use Rattle.stream_model.specs.declared.plain.Grain.{Grain}
-use Rattle.stream_model.specs.declared.plain.Subscription.{Subscription}
+use Rattle.step_core.proofs.Prelude.{PlainActivation, is_unacknowledged, Registration, ◌≡◌, ◌∙◌, ap, sym, subst, refl, ℕ, ◌<◌, Bool, true, false, ◌&&◌, not, List, [], ◌∷◌, length, map, filter, Option, Some, None, pred, nat_lt, arith, length-map, AllByRecursion, if◌then◌else◌, All-at, is_some-map, grain_lt, keys_where, least, next_after, past, GrainId, SubName, Token, AreIn, IsWithinLimits, sub_at, Grain, Subscription, leaves_of, no_entry, no_state, state_at}
 use Rattle.stream_model.specs.declared.reply.Reply.TheVariants as reply
-use Rattle.stream_model.specs.Bounds.{AreIn, IsWithinLimits}
 use Rattle.stream_model.specs.Looks as plain
-use Rattle.stream_model.specs.Positions.{sub_at}
-use Rattle.consumer_grain.specs.Activations.{PlainActivation}
-use Rattle.consumer_grain.specs.Subscriptions.{is_unacknowledged}
 use Rattle.grain_table.specs.Grains as grains
 use Rattle.partition_queue.specs.Queue.{token_at}
-use Rattle.pubsub_registry.specs.declared.registration.Registration.{Registration}
 use Rattle.subscription_table.specs.Leaves as leaves
-use Rattle.subscription_table.specs.LeavesOf.{leaves_of}
 use Rattle.subscription_table.specs.Table as table
-use Rattle.subscription_table.specs.Table.{no_entry, no_state, state_at}
 use Rattle.step_core.specs.Numbers.{AreDistinct}
 use Rattle.step_core.specs.declared.parts.Parts.{Parts}
 use Rattle.step_core.specs.PlainOf.{plain_of}
 use Rattle.step_core.specs.View.{delivery_of, grain_of, grains_of, sub_of, subs_of, turn_of}
 use Rattle.step_core.proofs.LeafOps.{due-is}
 use Rattle.step_core.proofs.NamesOps.{record-of-number}
-use Rattle.stream_ident.proofs.WordLemmas.{All-at, is_some-map}
 use Rattle.step_core.proofs.Shared.{name-same}
 use Rattle.step_core.proofs.ViewLemmas.{record-at, records-length}
 

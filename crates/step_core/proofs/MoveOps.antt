@@ -1,19 +1,9 @@
 -- Blocks are dropped and agents replaced, done by the parts.
-use Rattle.std.proofs.Common.{◌≡◌, ◌∙◌, ap, sym, refl, ℕ, suc, ◌+◌, ◌*◌, ◌<◌, ◌≤◌, min, Bool, true, false, List, length, get_or, ◌==◌, nat_le, arith}
-use Rattle.std.specs.Prelude.{if◌then◌else◌, ◌-◌, ◌/◌}
-use Rattle.std.proofs.lemmas.List.{length-drop}
-use Rattle.stream_ident.specs.declared.ident.SubName.{SubName}
-use Rattle.stream_ident.specs.Words.{least_with}
-use Rattle.stream_ident.specs.declared.limits.TheConstants.{BLOCK_EVENTS}
-use Rattle.stream_model.specs.declared.plain.PlainPartition.{PlainPartition}
-use Rattle.stream_model.specs.Replies.{Reply}
+use Rattle.step_core.proofs.Prelude.{SubState, Registration, PlainCache, high, ◌≡◌, ◌∙◌, ap, sym, refl, ℕ, suc, ◌+◌, ◌*◌, ◌<◌, ◌≤◌, min, Bool, true, false, List, length, get_or, ◌==◌, nat_le, arith, length-drop, if◌then◌else◌, ◌/◌, least_with, SubName, BLOCK_EVENTS, open_resumes, slowest, token_at, Reply, PlainPartition}
+use Rattle.std.specs.Prelude.{◌-◌}
 use Rattle.stream_model.specs.declared.reply.Reply.TheVariants as reply
-use Rattle.stream_model.specs.Positions.{open_resumes, slowest, token_at}
 use Rattle.stream_model.specs.Pulling as plain
-use Rattle.consumer_grain.specs.declared.sub_state.SubState.{SubState}
-use Rattle.pubsub_registry.specs.declared.registration.Registration.{Registration}
 use Rattle.pulling_agent.specs.Agent as agent
-use Rattle.queue_cache.specs.Cache.{PlainCache, high}
 use Rattle.step_core.specs.declared.parts.Parts.{Parts}
 use Rattle.step_core.specs.PlainOf.{plain_of}
 use Rattle.step_core.specs.View.{sub_of}

@@ -1,29 +1,13 @@
 -- Blocks that leave the cache and an agent that takes over leave parts that agree with each other.
-use Rattle.std.proofs.Common.{◌≡◌, ◌∙◌, ap, sym, subst, refl, ℕ, zero, suc, ◌+◌, ◌-◌, ◌*◌, ◌<◌, ◌≤◌, min, Bool, true, false, List, [], ◌∷◌, length, take, drop, get_or, map, arith, not, ◌==◌}
-use Rattle.std.proofs.lemmas.List.{drop-map, length-map}
-use Rattle.std.specs.Prelude.{if◌then◌else◌, Result, Ok, Err}
-use Rattle.stream_ident.specs.declared.token.Token.{Token}
-use Rattle.stream_ident.specs.Words.{least_with}
-use Rattle.stream_ident.specs.declared.limits.TheConstants.{BLOCK_EVENTS}
-use Rattle.stream_model.specs.declared.plain.PlainPartition.{PlainPartition}
-use Rattle.stream_model.specs.Replies.{Reply}
+use Rattle.step_core.proofs.Prelude.{IsDone, IsRefused, StaleAgent, PlainCache, high, bare, ◌≡◌, ◌∙◌, ap, sym, subst, ℕ, suc, ◌+◌, ◌-◌, ◌*◌, ◌≤◌, min, Bool, false, length, take, drop, get_or, map, arith, not, drop-map, get_or-map, length-map, if◌then◌else◌, least_with, BLOCK_EVENTS, Token, purge-stale, between, is_spent, open_resumes, slowest, token_at, Reply, PlainPartition, AreRecords, PlainTable, rewound_all, rewound_open}
 use Rattle.stream_model.specs.declared.reply.Reply.TheVariants as reply
-use Rattle.stream_model.specs.Positions.{between, is_spent, open_resumes, slowest, token_at}
 use Rattle.stream_model.specs.Pulling as plain
-use Rattle.consumer_grain.specs.declared.sub_state.SubState.{SubState}
 use Rattle.pulling_agent.specs.Agent as agent
-use Rattle.pulling_agent.specs.declared.agent.StaleAgent.{StaleAgent}
-use Rattle.queue_mapper.specs.Place.{bare}
-use Rattle.queue_cache.specs.Cache.{PlainCache, high}
-use Rattle.subscription_table.specs.Standing.{AreRecords}
-use Rattle.subscription_table.specs.Table.{PlainTable, rewound_all, rewound_open}
-use Rattle.stream_model.proofs.Refusals.{purge-stale}
 use Rattle.step_core.specs.Assembly.{Agrees, HasEvents, IsAssembled}
 use Rattle.step_core.specs.PlainOf.{plain_of}
 use Rattle.step_core.specs.View.{sub_of}
 use Rattle.step_core.specs.declared.parts.Parts.{Parts}
 use Rattle.step_core.proofs.CachedEvents.{between-drop}
-use Rattle.step_core.proofs.CheckOps.{IsReplaced}
 use Rattle.step_core.proofs.KnownOps.{known-rewound}
 use Rattle.step_core.proofs.LeafOps.{moved-to, slowest-is}
 use Rattle.step_core.proofs.MoveOps.{AreAllRewound, free-le, high-without, move-parts, moved, purge-parts, purged_by}
@@ -45,61 +29,8 @@ has-without parts blocks within has =
     c : PlainCache
     c = parts.agent.cache
 
--- what a purge by the agent's own generation comes to, and one by another
-pub record IsPurged (a new : agent.PlainAgent) (generation keep least low : ℕ) : Type 0 where
-  pub own : (generation == a.generation) ≡ true
-  pub is : (new, low) ≡ agent.purge_free a keep least
-
-pub record IsUnpurged (a new : agent.PlainAgent) (generation : ℕ) (stale : StaleAgent) : Type 0 where
-  pub replaced : IsReplaced a generation stale
-  pub same : new ≡ a
-
-abbrev agent_in : agent.PlainAgent × Result ℕ StaleAgent → agent.PlainAgent
-agent_in told = told.0
-
-abbrev told_in : agent.PlainAgent × Result ℕ StaleAgent → Result ℕ StaleAgent
-told_in told = told.1
-
-abbrev purged_told : ℕ → Result ℕ StaleAgent
-purged_told low = Ok low
-
-told-apart : (low : ℕ) (stale : StaleAgent) → purged_told low ≡ Err stale → ⊥
-told-apart low stale e = cc
-
-module _ (a new : agent.PlainAgent) (generation keep least : ℕ) where
-  abbrev purged_if : Bool → agent.PlainAgent × Result ℕ StaleAgent
-  purged_if own = if own then ((agent.purge_free a keep least).0, Ok (agent.purge_free a keep least).1) else (a, Err (record { now = a.generation }))
-
-  pub purged-own : (low : ℕ) → (new, Ok low) ≡ agent.purge a generation keep least → IsPurged a new generation keep least low
-  purged-own low = by (generation == a.generation) refl
-    where
-      by : (b : Bool) → (generation == a.generation) ≡ b → (new, Ok low) ≡ purged_if b → IsPurged a new generation keep least low
-      by true own e =
-          let told : Ok low ≡ Ok (agent.purge_free a keep least).1 = ap told_in e in
-          let same : new ≡ (agent.purge_free a keep least).0 = ap agent_in e in
-          let is : low ≡ (agent.purge_free a keep least).1 = cc in
-          record {
-            own = own;
-            is = ap (λ (n : agent.PlainAgent). (n, low)) same ∙ ap (λ (n : ℕ). ((agent.purge_free a keep least).0, n)) is;
-          }
-      by false other e = absurd (told-apart low (record { now = a.generation }) (ap told_in e))
-
-  pub purged-other : (stale : StaleAgent) → (new, Err stale) ≡ agent.purge a generation keep least → IsUnpurged a new generation stale
-  purged-other stale = by (generation == a.generation) refl
-    where
-      by : (b : Bool) → (generation == a.generation) ≡ b → (new, Err stale) ≡ purged_if b → IsUnpurged a new generation stale
-      by true own e =
-          absurd (told-apart (agent.purge_free a keep least).1 stale (sym (ap told_in e)))
-      by false other e =
-          let told : Err stale ≡ Err (record { now = a.generation }) = ap told_in e in
-          let is : stale ≡ record { now = a.generation } = cc in
-          record {
-            replaced = record { other = other; now = ap (λ (s : StaleAgent). s.now) is };
-            same = ap agent_in e;
-          }
-
 module _ (parts : Parts) (generation keep : ℕ) where
-  pub purged-assembled : (least : ℕ) (new : agent.PlainAgent) (low : ℕ) → IsAssembled parts → IsPurged parts.agent new generation keep least low → IsAssembled (record parts { agent = new })
+  pub purged-assembled : (least : ℕ) (new : agent.PlainAgent) (low : ℕ) → IsAssembled parts → IsDone parts.agent generation (agent.purge_free parts.agent keep least) new low → IsAssembled (record parts { agent = new })
   purged-assembled least new low assembled done =
       subst (λ (left : agent.PlainAgent × ℕ). IsAssembled (record parts { agent = left.0 })) (sym done.is)
       (record {
@@ -112,7 +43,7 @@ module _ (parts : Parts) (generation keep : ℕ) where
       })
 
   -- blocks were dropped
-  pub purged-done : (least : ℕ) (new : agent.PlainAgent) (low : ℕ) → least ≡ slowest (plain_of parts) → IsPurged parts.agent new generation keep least low
+  pub purged-done : (least : ℕ) (new : agent.PlainAgent) (low : ℕ) → least ≡ slowest (plain_of parts) → IsDone parts.agent generation (agent.purge_free parts.agent keep least) new low
       → (plain_of (record parts { agent = new }), reply.Purged (token_at (plain_of parts) low)) ≡ plain.purge (plain_of parts) generation keep
   purged-done least new low is_least done =
       ap (purged_by parts) done.is
@@ -120,27 +51,24 @@ module _ (parts : Parts) (generation keep : ℕ) where
       ∙ sym (purge-parts parts generation keep done.own)
 
   -- the agent was replaced
-  pub purge-replaced : (stale : StaleAgent) → IsReplaced parts.agent generation stale → (plain_of parts, reply.StaleAgent stale.now) ≡ plain.purge (plain_of parts) generation keep
-  purge-replaced stale replaced =
-      ap {B = PlainPartition × Reply} (λ now. (plain_of parts, reply.StaleAgent now)) replaced.now ∙ purge-stale (plain_of parts) generation keep (ap not replaced.other)
+  pub purge-refused : (new : agent.PlainAgent) (stale : StaleAgent) → IsRefused parts.agent generation parts.agent new stale → (plain_of (record parts { agent = new }), reply.StaleAgent stale.now) ≡ plain.purge (plain_of parts) generation keep
+  purge-refused new stale refused =
+      ap {B = PlainPartition × Reply} (λ (a : agent.PlainAgent). (plain_of (record parts { agent = a }), reply.StaleAgent stale.now)) refused.same
+      ∙ ap {B = PlainPartition × Reply} (λ now. (plain_of parts, reply.StaleAgent now)) refused.now
+      ∙ purge-stale (plain_of parts) generation keep (ap not refused.other)
 
   -- the cache then begins at a position that it had
-  pub purged-low : (least : ℕ) (new : agent.PlainAgent) (low : ℕ) → IsPurged parts.agent new generation keep least low → low ≤ high parts.agent.cache
+  pub purged-low : (least : ℕ) (new : agent.PlainAgent) (low : ℕ) → IsDone parts.agent generation (agent.purge_free parts.agent keep least) new low → low ≤ high parts.agent.cache
   purged-low least new low done =
       let is : low ≡ parts.agent.cache.low + BLOCK_EVENTS * agent.purges parts.agent keep least = ap (λ (left : agent.PlainAgent × ℕ). left.1) done.is in
       omega (arith, is, purges-le parts.agent keep least)
 
 -- ---- another agent
 
-map-at : (f : SubState → SubState) (states : List SubState) (i : ℕ) (e : SubState) → i < length states → get_or (map f states) i e ≡ f (get_or states i e)
-map-at f [] i e within = absurd (omega (arith, within))
-map-at f (state ∷ states) zero e within = refl
-map-at f (state ∷ states) (suc i) e within = map-at f states i e (omega (arith, within))
-
 all-rewound : (parts : Parts) → AreRecords parts.subs → AreAllRewound parts (rewound_all parts.subs).states
 all-rewound parts records i d e within =
     let long = records.long in
-    ap (λ state. (sub_of (get_or parts.subs.registry.names i d) state).1) (map-at rewound_open parts.subs.states i e (omega (arith, within, long)))
+    ap (λ state. (sub_of (get_or parts.subs.registry.names i d) state).1) (get_or-map rewound_open parts.subs.states i e e (omega (arith, within, long)))
 
 module _ (parts : Parts) (silo position : ℕ) where
   -- the agent's next generation is the plain partition's, since no more than the rises there may be were made

@@ -1,17 +1,5 @@
 -- The number of a name is the place where it stands.
-use Rattle.std.proofs.Common.{◌≡◌, ◌∙◌, ap, refl, ℕ, zero, suc, ◌<◌, List, [], ◌∷◌, length, get_or, map, Option, Some, arith, sym}
-use Rattle.std.proofs.lemmas.Bool.{false_from_ne_true}
-use Rattle.stream_ident.specs.declared.ident.SubName.{SubName}
-use Rattle.stream_ident.specs.declared.ident.SubName.TheVariants.{Explicit}
-use Rattle.stream_ident.specs.SubName.{same_sub}
-use Rattle.stream_ident.specs.Words.{place_of}
-use Rattle.stream_model.specs.declared.plain.Subscription.{Subscription}
-use Rattle.stream_model.specs.Positions.{sub_at}
-use Rattle.consumer_grain.specs.declared.sub_state.SubState.{SubState}
-use Rattle.pubsub_registry.specs.declared.registration.Registration.{Registration}
-use Rattle.stream_ident.proofs.FirstLemmas.{first_at-there, place_of-key}
-use Rattle.stream_ident.proofs.SameValues.{same_sub-refl, same_sub-equal}
-use Rattle.subscription_table.specs.Table.{no_entry}
+use Rattle.step_core.proofs.Prelude.{SubState, Registration, ◌≡◌, ◌∙◌, ap, refl, ℕ, ◌<◌, List, [], ◌∷◌, length, get_or, map, Option, Some, arith, sym, false_from_ne_true, get_or-map, first_at-there, place_of-key, same_sub-refl, same_sub-equal, same_sub, place_of, SubName, Explicit, sub_at, Subscription, no_entry}
 use Rattle.step_core.specs.Numbers.{AreDistinct}
 use Rattle.step_core.specs.declared.parts.Parts.{Parts}
 use Rattle.step_core.specs.PlainOf.{plain_of}
@@ -21,9 +9,7 @@ use Rattle.step_core.proofs.RecordOps.{record-found, record_at}
 
 -- the name under a number is that of the entry
 pub name-of-entry : (names : List (SubName × Registration)) (i : ℕ) (d : SubName × Registration) → i < length names → name_at names i ≡ (get_or names i d).0
-name-of-entry [] i d within = absurd (omega (arith, within))
-name-of-entry (entry ∷ entries) zero d within = refl
-name-of-entry (entry ∷ entries) (suc i) d within = name-of-entry entries i d (omega (arith, within))
+name-of-entry names i d within = get_or-map (λ (entry : SubName × Registration). entry.0) names i d (Explicit 0) within
 
 -- and a name is that of the entry at its place
 pub name-of-place : (s : SubName) (names : List (SubName × Registration)) (number : ℕ) (d : SubName × Registration) → place_of same_sub s names ≡ Some number → s ≡ (get_or names number d).0

@@ -1,14 +1,8 @@
 -- The parts before the first operation.
-use Rattle.std.proofs.Common.{◌≡◌, sym, subst, refl, ℕ, ◌≤◌, List, [], arith}
-use Rattle.stream_ident.specs.declared.ident.GrainId.{GrainId}
-use Rattle.stream_ident.specs.declared.limits.TheConstants.{MOST_BLOCKS}
+use Rattle.step_core.proofs.Prelude.{PlainActivation, ◌≡◌, sym, subst, refl, ℕ, ◌≤◌, List, [], arith, GrainId, MOST_BLOCKS, new-partition, AreLimits, AreRecords}
 use Rattle.stream_model.specs.declared.limits.Limits.{Limits}
-use Rattle.stream_model.specs.Bounds.{AreLimits}
-use Rattle.stream_model.proofs.Reaching.{new-partition}
-use Rattle.consumer_grain.specs.Activations.{PlainActivation}
 use Rattle.partition_queue.specs.Queue as queue
 use Rattle.pulling_agent.specs.Agent as agent
-use Rattle.subscription_table.specs.Standing.{AreRecords}
 use Rattle.subscription_table.specs.Table as table
 use Rattle.step_core.specs.declared.parts.Parts.{Parts}
 use Rattle.step_core.specs.Assembly.{Agrees}

@@ -1,15 +1,6 @@
 -- Numbers of records stand for their names.
-use Rattle.std.specs.Prelude.{if◌then◌else◌}
-use Rattle.std.proofs.Common.{◌≡◌, ◌∙◌, ap, sym, subst, refl, ℕ, zero, suc, ◌<◌, Bool, true, false, ◌==◌, List, [], ◌∷◌, length, map, filter}
-use Rattle.std.proofs.lemmas.Bool.{eq-eqb, false≢true, ne_eqb}
-use Rattle.std.specs.List.{AllByRecursion}
-use Rattle.stream_ident.specs.declared.ident.SubName.{SubName}
-use Rattle.stream_ident.specs.SubName.{same_sub}
+use Rattle.step_core.proofs.Prelude.{front_of, Delivery, Registration, ◌≡◌, ◌∙◌, ap, sym, subst, refl, ℕ, zero, suc, ◌<◌, Bool, true, false, ◌==◌, List, [], ◌∷◌, length, map, filter, eq-eqb, false≢true, ne_eqb, AllByRecursion, if◌then◌else◌, same_sub-refl, same_sub, SubName}
 use Rattle.stream_model.specs.Turns as plain
-use Rattle.stream_ident.proofs.SameValues.{same_sub-refl}
-use Rattle.consumer_grain.specs.declared.mailbox.Delivery.{Delivery}
-use Rattle.consumer_grain.specs.Activations.{front_of}
-use Rattle.pubsub_registry.specs.declared.registration.Registration.{Registration}
 use Rattle.step_core.specs.View.{name_at, delivery_of}
 use Rattle.step_core.specs.Numbers.{AreDistinct}
 

@@ -1,14 +1,9 @@
 -- What grains know is kept where one of them changes.
-use Rattle.std.proofs.Common.{◌≡◌, ap, refl, ℕ, zero, suc, ◌<◌, List, [], ◌∷◌, length, map, get_or}
-use Rattle.std.specs.List.{AllByRecursion}
-use Rattle.stream_ident.specs.Words.{change_at}
-use Rattle.grain_table.specs.Changes.{activation_at, no_grain}
-use Rattle.grain_table.specs.Grains.{PlainGrains}
-use Rattle.step_core.specs.Assembly.{IsAssembled}
+use Rattle.step_core.proofs.Prelude.{activation_at, no_grain, PlainGrains, number_of, ◌≡◌, ap, refl, ℕ, zero, suc, ◌<◌, List, [], ◌∷◌, length, map, get_or, Some, AllByRecursion, All-at, same_grain, change_at, GrainId, place_of-within}
+use Rattle.step_core.specs.Assembly.{Agrees, IsAssembled}
 use Rattle.step_core.specs.Known.{AreKnown}
 use Rattle.step_core.specs.Numbers.{IsBelow}
 use Rattle.step_core.specs.declared.parts.Parts.{Parts}
-use Rattle.stream_ident.proofs.WordLemmas.{All-at}
 
 -- and of each after a change that keeps it
 pub All-change_at : {K V : Type 0} (P : V → Type 0) (change : V → V) (i : ℕ) (entries : List (K × V)) → ((v : V) → P v → P (change v)) → AllByRecursion (λ (entry : K × V). P entry.1) entries → AllByRecursion (λ (entry : K × V). P entry.1) (change_at change i entries)
@@ -35,6 +30,17 @@ change_at-kept (suc i) (entry ∷ entries) d = ap (λ rest. entry ∷ rest) (cha
 -- the grain with a number knows only numbers that are given
 pub known-at : (parts : Parts) (i : ℕ) → IsAssembled parts → i < length parts.grains → IsBelow (length parts.subs.registry.names) (activation_at parts.grains i)
 known-at parts i assembled within = All-at (λ entry. IsBelow (length parts.subs.registry.names) entry.1) parts.grains i no_grain assembled.numbered within
+
+-- the parts agree, and a grain has this number
+pub record HasGrain (parts : Parts) (g : GrainId) (i : ℕ) : Type 0 where
+  pub agrees : Agrees parts
+  pub found : number_of parts.grains g ≡ Some i
+
+pub grain-within : {parts : Parts} {g : GrainId} {i : ℕ} → HasGrain parts g i → i < length parts.grains
+grain-within {parts} {g} {i} has = place_of-within same_grain g i parts.grains has.found
+
+pub grain-below : {parts : Parts} {g : GrainId} {i : ℕ} → HasGrain parts g i → IsBelow (length parts.subs.registry.names) (activation_at parts.grains i)
+grain-below {parts} {g} {i} has = known-at parts i has.agrees.assembled (grain-within has)
 
 -- the parts stay assembled where what the grains know is given, and whatever the rises and turns
 pub grains-known : (parts : Parts) (grains : PlainGrains) → IsAssembled parts → AllByRecursion (λ entry. IsBelow (length parts.subs.registry.names) entry.1) grains → AreKnown parts.subs.registry.names parts.subs.states grains → IsAssembled (record parts { grains = grains })

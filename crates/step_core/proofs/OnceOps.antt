@@ -1,28 +1,14 @@
 -- A turn of one event made at once: what Deliver, Begin and Commit leave together.
-use Rattle.std.proofs.Common.{◌≡◌, ◌∙◌, ap, sym, refl, subst, ℕ, suc, Bool, true, false, ◌&&◌, not, nat_le, nat_lt, List, [], ◌∷◌, ◌++◌, Option, Some, None, if◌then◌else◌, unwrap_or}
-use Rattle.std.proofs.lemmas.List.{append_assoc}
-use Rattle.stream_ident.specs.declared.ident.SubName.{SubName}
-use Rattle.stream_ident.proofs.SameValues.{IsEquality, grain_equality, sub_equality}
-use Rattle.stream_ident.specs.Name.{same_grain}
-use Rattle.stream_ident.specs.SubName.{same_sub}
-use Rattle.stream_ident.specs.Words.{past, value_at, with_value}
-use Rattle.stream_model.specs.declared.op.Op.TheVariants.{Begin, Commit, Deliver}
+use Rattle.step_core.proofs.Prelude.{◌≡◌, ◌∙◌, ap, sym, refl, subst, ℕ, suc, Bool, true, false, ◌&&◌, not, List, [], ◌∷◌, ◌++◌, map, Option, Some, None, append_assoc, IsEquality, grain_equality, sub_equality, same_grain, same_sub, value_at, with_value, SubName, deliver-delivered, with_value-at, Progress, after_begin, after_commit, and_then, deliver_up_to, go_on, joined, next_note, Entry, events_at, grain_at, is_spent, new_grain, sub_at, token_at, delivered, Reply, Leads, begun, Begin, Commit, Deliver, Grain, PlainPartition, Subscription}
+use Rattle.std.proofs.Common.{if◌then◌else◌, unwrap_or}
 use Rattle.stream_model.specs.declared.plain.Delivery.{Delivery}
-use Rattle.stream_model.specs.declared.plain.Grain.{Grain}
-use Rattle.stream_model.specs.declared.plain.PlainPartition.{PlainPartition}
-use Rattle.stream_model.specs.declared.plain.Subscription.{Subscription}
-use Rattle.stream_model.specs.Replies.{Reply}
 use Rattle.stream_model.specs.declared.reply.Reply.TheVariants as reply
 use Rattle.stream_model.specs.Draining as draining
-use Rattle.stream_model.specs.Draining.{Progress, after_begin, after_commit, after_deliver, and_then, deliver_up_to, go_on, joined, next_note, take_turn}
-use Rattle.stream_model.specs.History.{Entry}
-use Rattle.stream_model.specs.Positions.{events_at, grain_at, is_spent, new_grain, next_position, sub_at, token_at, with_sub}
-use Rattle.stream_model.specs.Pulling.{delivered, woken}
-use Rattle.stream_model.specs.Step.{step, Leads}
-use Rattle.stream_model.specs.Turns.{begun, committed}
-use Rattle.stream_model.proofs.Values.{with_value-at}
+use Rattle.stream_model.specs.Draining.{after_deliver, take_turn}
+use Rattle.stream_model.specs.Pulling.{woken}
+use Rattle.stream_model.specs.Step.{step}
+use Rattle.stream_model.specs.Turns.{committed}
 use Rattle.stream_laws.proofs.DrainBegin.{begin-turn, busy_grain, commit-turn, ready_grain, turn_of}
-use Rattle.stream_laws.proofs.DrainDeliver.{deliver-delivered}
 use Rattle.stream_laws.proofs.FitsOne.{with_value-same}
 use Rattle.stream_laws.proofs.IdleGrains.{grain-set}
 use Rattle.step_core.specs.DrainPhases.{Ends}
@@ -37,6 +23,17 @@ with_value-twice {K} {V} same is k v w (entry ∷ entries) =
       | true ↦ λ here. rw here refl
       | false ↦ λ there. rw there (ap (λ rest. entry ∷ rest) (with_value-twice same is k v w entries))
     ]) refl
+
+-- what a value that is set leaves of the entries, where it is read of both values alike
+pub with_value-map : {K V X : Type 0} (f : K × V → X) (same : K → K → Bool) (k : K) (old new : V) (entries : List (K × V)) → value_at same k entries ≡ Some old → ((key : K) → f (key, new) ≡ f (key, old)) → map f (with_value same k new entries) ≡ map f entries
+with_value-map f same k old new [] found alike = absurd (cc)
+with_value-map {K} {V} {X} f same k old new (entry ∷ entries) found alike =
+    (elim (same k entry.0) as (λ b. (if b then Some entry.1 else value_at same k entries) ≡ Some old → map f (if b then (entry.0, new) ∷ entries else entry ∷ with_value same k new entries) ≡ f entry ∷ map f entries) [
+      | true ↦ λ here.
+          let is_old : entry.1 ≡ old = cc in
+          ap (λ (x : X). x ∷ map f entries) (alike entry.0 ∙ ap (λ (v : V). f (entry.0, v)) (sym is_old))
+      | false ↦ λ there. ap (λ rest. f entry ∷ rest) (with_value-map f same k old new entries there alike)
+    ]) found
 
 -- entries in front of a progress stay in front of what follows it
 go_on-joined : (first entries : List Entry) (p : PlainPartition) (stop : Option draining.Stop) (next : PlainPartition → Progress) → go_on (first ++ entries) p stop next ≡ joined first (go_on entries p stop next)

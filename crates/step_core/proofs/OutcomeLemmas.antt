@@ -1,13 +1,8 @@
 -- What comes of an operation that begins no turn.
-use Rattle.std.proofs.Common.{◌≡◌, [], List, Result, Ok, Err, subst, ap, sym, ◌∙◌, refl}
-use Rattle.std.specs.Prelude.{IfOk, OnErr}
-use Rattle.std.specs.declared.alloc.AllocError.{AllocError}
-use Rattle.stream_ident.specs.declared.event.Event.{Event}
+use Rattle.step_core.proofs.Prelude.{◌≡◌, [], List, Ok, subst, ap, sym, ◌∙◌, refl, IfOk, OnErr, AllocError, Performs, Event, IsNoTurn, Reply, PlainPartition}
+use Rattle.std.proofs.Common.{Result, Err}
 use Rattle.stream_ident.specs.Event.{events_at}
-use Rattle.stream_ident.specs.Words.{Performs}
-use Rattle.stream_model.specs.declared.plain.PlainPartition.{PlainPartition}
 use Rattle.stream_model.specs.declared.reply.Reply.TheVariants as reply
-use Rattle.stream_model.specs.Replies.{IsNoTurn, Reply}
 use Rattle.stream_model.proofs.Retyping.{with-any}
 use Rattle.step_core.specs.Replied.{answered, replied, reply_of, reply_with, IsOfLog, Outcome}
 

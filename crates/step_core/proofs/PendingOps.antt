@@ -1,22 +1,5 @@
 -- What is left to do, by the numbers of grains and of records.
-use Rattle.std.proofs.Common.{◌≡◌, ◌∙◌, ap, sym, refl, ℕ, zero, suc, ◌+◌, ◌<◌, ◌≤◌, Bool, true, false, ◌&&◌, List, [], ◌∷◌, length, map, take, arith}
-use Rattle.std.specs.Prelude.{is_some}
-use Rattle.std.specs.List.{flat_map}
-use Rattle.std.proofs.lemmas.List.{length-append, length-map, take_all}
-use Rattle.stream_ident.specs.declared.ident.GrainId.{GrainId}
-use Rattle.stream_ident.specs.declared.ident.SubName.{SubName}
-use Rattle.stream_model.specs.declared.plain.Grain.{Grain}
-use Rattle.stream_model.specs.Draining.{all_waiting}
-use Rattle.stream_model.specs.Positions.{next_position}
-use Rattle.stream_model.specs.Step.{IsReached}
-use Rattle.queue_cache.specs.Cache.{PlainCache}
-use Rattle.cache_cursor.specs.Cursor.{next_in}
-use Rattle.consumer_grain.specs.Activations.{PlainActivation}
-use Rattle.consumer_grain.specs.declared.sub_state.SubState.{SubState}
-use Rattle.grain_table.specs.Changes.{activation_at}
-use Rattle.grain_table.specs.Grains.{PlainGrains}
-use Rattle.pubsub_registry.specs.declared.registration.Registration.{Registration}
-use Rattle.subscription_table.specs.Table.{no_entry, no_state, registration_at, state_at}
+use Rattle.step_core.proofs.Prelude.{next_in, PlainActivation, SubState, activation_at, PlainGrains, Registration, PlainCache, ◌≡◌, ◌∙◌, ap, sym, refl, ℕ, zero, suc, ◌+◌, ◌<◌, ◌≤◌, Bool, true, false, ◌&&◌, List, [], ◌∷◌, length, map, take, arith, length-append, length-map, take_all, flat_map, is_some, GrainId, SubName, all_waiting, next_position, IsReached, Grain, no_entry, no_state, registration_at, state_at}
 use Rattle.step_core.specs.Assembly.{HasEvents}
 use Rattle.step_core.specs.Deliverables.{is_deliverable}
 use Rattle.step_core.specs.Numbers.{AreDistinct}

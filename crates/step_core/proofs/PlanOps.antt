@@ -1,36 +1,21 @@
 -- What an agent plans to pull is what the plain pull does.
-use Rattle.std.proofs.Common.{◌≡◌, ◌∙◌, ap, sym, refl, ℕ, ◌+◌, ◌-◌, ◌*◌, ◌/◌, min, Bool, true, false, ◌&&◌, List, [], ◌∷◌, length, map, filter, Option, Some, None, ◌==◌, arith, not}
-use Rattle.std.specs.Prelude.{if◌then◌else◌, unwrap_or, Ok, Err}
-use Rattle.stream_ident.specs.declared.ident.SubName.{SubName}
+use Rattle.step_core.proofs.Prelude.{SubState, Registration, Plan, StaleAgent, ◌≡◌, ◌∙◌, ap, sym, refl, ℕ, ◌+◌, ◌-◌, ◌*◌, min, Bool, true, false, ◌&&◌, List, [], ◌∷◌, length, map, filter, Option, Some, None, ◌==◌, arith, not, if◌then◌else◌, unwrap_or, Err, pull_size, sub_lt, keys_where, least, has_number, SubName, BLOCK_EVENTS, pull-stale, slowest, slowest_name, is_open_at, Reply, PlainPartition, Subscription, NamedLeaf, leaf_of, leaves_of, open_resume}
+use Rattle.std.proofs.Common.{◌/◌}
+use Rattle.std.specs.Prelude.{Ok}
 use Rattle.stream_ident.specs.declared.ident.SubName.TheVariants as name
-use Rattle.stream_ident.specs.SubName.{sub_lt}
-use Rattle.stream_model.specs.declared.plain.PlainPartition.{PlainPartition}
-use Rattle.stream_model.specs.declared.plain.Subscription.{Subscription}
-use Rattle.stream_model.specs.Replies.{Reply}
 use Rattle.stream_model.specs.declared.reply.Reply.TheVariants as reply
-use Rattle.stream_model.specs.Positions.{slowest, slowest_name, is_open_at}
 use Rattle.stream_model.specs.Pulling as plain
-use Rattle.consumer_grain.specs.declared.sub_state.SubState.{SubState}
 use Rattle.ranked_index.specs.Keys.{lesser_key}
-use Rattle.pubsub_registry.specs.declared.registration.Registration.{Registration}
 use Rattle.pulling_agent.specs.Agent as agent
-use Rattle.pulling_agent.specs.declared.agent.Plan.{Plan}
 use Rattle.pulling_agent.specs.declared.agent.Plan.TheVariants as plan
-use Rattle.pulling_agent.specs.declared.agent.StaleAgent.{StaleAgent}
 use Rattle.queue_cache.specs.Cache as cache
-use Rattle.subscription_table.specs.Leaves.{NamedLeaf}
 use Rattle.subscription_table.specs.Leaves as leaves
-use Rattle.subscription_table.specs.LeavesOf.{leaf_of, leaves_of, open_resume}
-use Rattle.stream_ident.specs.Words.{keys_where, least, has_number}
-use Rattle.stream_model.proofs.Refusals.{pull-stale}
 use Rattle.step_core.specs.declared.parts.Parts.{Parts}
 use Rattle.step_core.specs.PlainOf.{plain_of}
 use Rattle.step_core.specs.Taking.{taken}
 use Rattle.step_core.specs.View.{sub_of, subs_of}
-use Rattle.step_core.proofs.CheckOps.{IsAnswered, answered-current, answered-stale}
+use Rattle.step_core.proofs.CheckOps.{IsAnswered, answered-as}
 use Rattle.step_core.proofs.LeafOps.{slowest-is}
-use Rattle.stream_ident.specs.Blocks.{pull_size}
-use Rattle.stream_ident.specs.declared.limits.TheConstants.{BLOCK_EVENTS}
 
 -- ---- the slowest subscription
 
@@ -139,11 +124,11 @@ planned-is parts generation max_events len least made is_len is_least is =
     ∙ sym (pull-planned parts generation max_events answer.own)
   where
     answer : IsAnswered parts.agent generation (agent.plan_of parts.agent max_events len least) made
-    answer = answered-current parts.agent generation (agent.plan_of parts.agent max_events len least) made is
+    answer = answered-as parts.agent generation (agent.plan_of parts.agent max_events len least) (Ok made) is
 
 -- the agent was replaced
 pub pull-replaced : (parts : Parts) (generation max_events len least : ℕ) (stale : StaleAgent) → Err stale ≡ agent.plan_pull parts.agent generation max_events len least
     → (plain_of parts, reply.StaleAgent stale.now) ≡ plain.pull (plain_of parts) generation max_events
 pull-replaced parts generation max_events len least stale is =
-    let replaced = answered-stale parts.agent generation (agent.plan_of parts.agent max_events len least) stale is in
+    let replaced = answered-as parts.agent generation (agent.plan_of parts.agent max_events len least) (Err stale) is in
     ap {B = PlainPartition × Reply} (λ now. (plain_of parts, reply.StaleAgent now)) replaced.now ∙ pull-stale (plain_of parts) generation max_events (ap not replaced.other)

@@ -1,21 +1,9 @@
 -- What producers ask, done by the parts.
-use Rattle.std.proofs.Common.{◌≡◌, ap, refl, ℕ, suc, ◌+◌, Bool, true, false, ◌&&◌, ◌||◌, List, [], ◌∷◌, ◌++◌, length, ◌==◌, nat_lt, nat_le}
-use Rattle.std.specs.Prelude.{if◌then◌else◌}
-use Rattle.std.specs.List.{list_any}
-use Rattle.stream_ident.specs.declared.ident.StreamId.{StreamId}
-use Rattle.stream_ident.specs.declared.rule.Rule.{Rule}
-use Rattle.stream_ident.specs.Name.{same_name}
+use Rattle.step_core.proofs.Prelude.{PlainQueue, append, Appended, RuleAdded, ◌≡◌, ap, refl, ℕ, suc, ◌+◌, Bool, true, false, ◌&&◌, ◌||◌, List, [], ◌∷◌, ◌++◌, length, ◌==◌, nat_lt, nat_le, list_any, if◌then◌else◌, events_of, same_name, StreamId, BATCH_EVENTS, Rule, Reply, PlainPartition}
 use Rattle.stream_model.specs.declared.reply.Reply.TheVariants as reply
-use Rattle.stream_model.specs.declared.plain.PlainPartition.{PlainPartition}
-use Rattle.stream_model.specs.Replies.{Reply}
-use Rattle.stream_ident.specs.Event.{events_of}
-use Rattle.stream_ident.specs.declared.limits.TheConstants.{BATCH_EVENTS}
 use Rattle.stream_model.specs.Publishing.{publish, add_rule}
-use Rattle.partition_queue.specs.declared.appended.Appended.{Appended}
 use Rattle.partition_queue.specs.declared.appended.Appended.TheVariants as appended
-use Rattle.partition_queue.specs.Queue.{PlainQueue, append}
 use Rattle.pubsub_registry.specs.Registry as registry
-use Rattle.pubsub_registry.specs.declared.told.RuleAdded.{RuleAdded}
 use Rattle.pubsub_registry.specs.declared.told.RuleAdded.TheVariants as rule_told
 use Rattle.step_core.specs.declared.parts.Parts.{Parts}
 use Rattle.step_core.specs.PlainOf.{plain_of}

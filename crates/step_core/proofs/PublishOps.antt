@@ -1,23 +1,10 @@
 -- What producers ask leaves parts that agree with each other.
-use Rattle.std.proofs.Common.{◌≡◌, ◌∙◌, ap, subst, sym, refl, ℕ, suc, ◌+◌, ◌≤◌, Bool, true, false, ◌||◌, List, [], ◌++◌, length, map, ◌==◌, nat_lt, arith}
-use Rattle.std.specs.Prelude.{if◌then◌else◌, Result, Ok, Err}
-use Rattle.std.specs.declared.alloc.AllocError.{AllocError}
-use Rattle.std.proofs.lemmas.List.{append-nil}
-use Rattle.stream_ident.specs.declared.event.Event.{Event}
-use Rattle.stream_ident.specs.declared.ident.StreamId.{StreamId}
-use Rattle.stream_ident.specs.Event.{events_of}
-use Rattle.stream_ident.specs.Words.{Performs}
-use Rattle.stream_ident.specs.declared.limits.TheConstants.{BATCH_EVENTS}
-use Rattle.stream_model.specs.declared.plain.PlainPartition.{PlainPartition}
-use Rattle.stream_model.specs.Replies.{Reply}
-use Rattle.stream_model.specs.Positions.{between}
+use Rattle.step_core.proofs.Prelude.{PlainQueue, append, Appended, high, bare, ◌≡◌, ◌∙◌, ap, subst, sym, refl, ℕ, suc, ◌+◌, ◌≤◌, Bool, true, false, ◌||◌, List, [], ◌++◌, length, map, ◌==◌, nat_lt, arith, append-nil, if◌then◌else◌, Result, Err, AllocError, events_of, Performs, Event, StreamId, BATCH_EVENTS, between, Reply, PlainPartition}
+use Rattle.std.specs.Prelude.{Ok}
 use Rattle.stream_model.specs.Publishing.{publish}
 use Rattle.stream_model.specs.Step as plain
-use Rattle.partition_queue.specs.declared.appended.Appended.{Appended}
 use Rattle.partition_queue.specs.declared.appended.Appended.TheVariants as appended
-use Rattle.partition_queue.specs.Queue.{PlainQueue, append, takes_memory}
-use Rattle.queue_mapper.specs.Place.{bare}
-use Rattle.queue_cache.specs.Cache.{high}
+use Rattle.partition_queue.specs.Queue.{takes_memory}
 use Rattle.step_core.specs.Assembly.{IsAssembled}
 use Rattle.step_core.specs.PlainOf.{plain_of}
 use Rattle.step_core.specs.Replies.{appended_reply, of_append}

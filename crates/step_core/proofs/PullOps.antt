@@ -1,27 +1,9 @@
 -- The events that an agent takes, and the subscriptions that the rules make of them.
-use Rattle.std.proofs.Common.{◌≡◌, ◌∙◌, ap, sym, subst, refl, ℕ, suc, ◌≤◌, Bool, true, false, ◌&&◌, not, List, [], ◌∷◌, ◌++◌, length, map, drop, fold, Some, is_some, arith}
-use Rattle.std.specs.Prelude.{if◌then◌else◌}
-use Rattle.std.specs.List.{AllByRecursion, flat_map}
-use Rattle.std.proofs.lemmas.List.{append-nil, map-append}
-use Rattle.std.proofs.Math.Seq.{drop-append_seam}
-use Rattle.stream_ident.specs.declared.event.Event.{Event}
-use Rattle.stream_ident.specs.declared.ident.GrainId.{GrainId}
-use Rattle.stream_ident.specs.declared.ident.SubName.{SubName}
+use Rattle.step_core.proofs.Prelude.{PlainActivation, new_state, SubState, Registration, ◌≡◌, ◌∙◌, ap, sym, subst, refl, ℕ, Bool, true, false, ◌&&◌, not, List, [], ◌∷◌, ◌++◌, length, map, drop, fold, Some, arith, append_snoc, drop-append_seam, append-nil, length-append, length-map, map-append, AllByRecursion, flat_map, if◌then◌else◌, batch_token, same_name, same_sub, token_lt, value_at, Event, GrainId, SubName, Rule, Subscription, new_states}
+use Rattle.std.proofs.Common.{is_some}
 use Rattle.stream_ident.specs.declared.ident.SubName.TheVariants as name
-use Rattle.stream_ident.specs.declared.rule.Rule.{Rule}
-use Rattle.stream_ident.specs.Event.{batch_token}
-use Rattle.stream_ident.specs.Name.{same_name}
-use Rattle.stream_ident.specs.SubName.{same_sub}
-use Rattle.stream_ident.specs.Token.{token_lt}
-use Rattle.stream_ident.specs.Words.{value_at}
-use Rattle.stream_model.specs.declared.plain.Subscription.{Subscription}
 use Rattle.stream_model.specs.Pulling as plain
-use Rattle.consumer_grain.specs.Activations.{PlainActivation}
-use Rattle.consumer_grain.specs.Subscriptions.{new_state}
-use Rattle.consumer_grain.specs.declared.sub_state.SubState.{SubState}
-use Rattle.pubsub_registry.specs.declared.registration.Registration.{Registration}
 use Rattle.pubsub_registry.specs.Implying as implying
-use Rattle.subscription_table.specs.Table.{new_states}
 use Rattle.stream_ident.specs.Implying.{added}
 use Rattle.step_core.specs.Known.{AreKnown}
 use Rattle.step_core.specs.Numbers.{IsBelow}
@@ -84,10 +66,6 @@ new_of : List (SubName × Registration) → List (SubName × Registration) → L
 new_of names [] = []
 new_of names (entry ∷ entries) = if is_some (value_at same_sub entry.0 names) then new_of names entries else entry ∷ new_of (names ++ entry ∷ []) entries
 
-append-one : {A : Type 0} (xs : List A) (x : A) (ys : List A) → (xs ++ x ∷ []) ++ ys ≡ xs ++ x ∷ ys
-append-one [] x ys = refl
-append-one (first ∷ xs) x ys = ap (λ rest. first ∷ rest) (append-one xs x ys)
-
 names-added : (names entries : List (SubName × Registration)) → fold added names entries ≡ names ++ new_of names entries
 unfolding new_of
 names-added names [] = sym (append-nil names)
@@ -97,13 +75,7 @@ names-added names (entry ∷ entries) =
     by : (there : Bool) → fold added names entries ≡ names ++ new_of names entries → fold added (names ++ entry ∷ []) entries ≡ (names ++ entry ∷ []) ++ new_of (names ++ entry ∷ []) entries
         → fold added (if there then names else names ++ entry ∷ []) entries ≡ names ++ (if there then new_of names entries else entry ∷ new_of (names ++ entry ∷ []) entries)
     by true kept more = kept
-    by false kept more = more ∙ append-one names entry (new_of (names ++ entry ∷ []) entries)
-
-length-one : {A B : Type 0} (xs : List A) (ys : List B) (x : A) (y : B) → length xs ≡ length ys → length (xs ++ x ∷ []) ≡ length (ys ++ y ∷ [])
-length-one [] [] x y same = refl
-length-one [] (other ∷ ys) x y same = absurd (omega (arith, same))
-length-one (first ∷ xs) [] x y same = absurd (omega (arith, same))
-length-one (first ∷ xs) (other ∷ ys) x y same = ap suc (length-one xs ys x y (omega (arith, same)))
+    by false kept more = more ∙ append_snoc names entry (new_of (names ++ entry ∷ []) entries)
 
 -- and their records
 records-made : (position : ℕ) (names entries : List (SubName × Registration)) (states : List SubState) → length names ≡ length states
@@ -115,7 +87,7 @@ records-made position names [] states lengths =
 records-made position names (entry ∷ entries) states lengths =
     ap (λ there. fold added (if there then subs_of names states else subs_of names states ++ new_record position entry ∷ []) (new_records position entries)) (there-is entry.0 names states lengths)
     ∙ by (is_some (value_at same_sub entry.0 names)) (records-made position names entries states lengths)
-    (records-made position (names ++ entry ∷ []) entries (states ++ state ∷ []) (length-one names states entry state lengths))
+    (records-made position (names ++ entry ∷ []) entries (states ++ state ∷ []) (omega (arith, lengths, length-append names (entry ∷ []), length-append states (state ∷ []))))
   where
     state : SubState
     state = new_state entry.1.start position
@@ -131,8 +103,8 @@ records-made position names (entry ∷ entries) states lengths =
     by false kept more =
         ap (λ subs. fold added subs (new_records position entries)) (sym (record-added names states entry state lengths))
         ∙ more
-        ∙ ap (λ ns. subs_of ns ((states ++ state ∷ []) ++ new_states position (new_of (names ++ entry ∷ []) entries))) (append-one names entry (new_of (names ++ entry ∷ []) entries))
-        ∙ ap (λ ss. subs_of (names ++ entry ∷ new_of (names ++ entry ∷ []) entries) ss) (append-one states state (new_states position (new_of (names ++ entry ∷ []) entries)))
+        ∙ ap (λ ns. subs_of ns ((states ++ state ∷ []) ++ new_states position (new_of (names ++ entry ∷ []) entries))) (append_snoc names entry (new_of (names ++ entry ∷ []) entries))
+        ∙ ap (λ ss. subs_of (names ++ entry ∷ new_of (names ++ entry ∷ []) entries) ss) (append_snoc states state (new_states position (new_of (names ++ entry ∷ []) entries)))
 
 -- the view of a table with the names and states that the rules make
 pub made-view : (rules : List Rule) (position : ℕ) (names : List (SubName × Registration)) (states : List SubState) (events : List Event) → length names ≡ length states
@@ -146,13 +118,6 @@ made-view rules position names states events lengths =
     entries : List (SubName × Registration)
     entries = implying.all_implied rules events
 
-length-both : {A B : Type 0} (f : A → B) (xs : List A) (ys : List B) (more : List A) → length xs ≡ length ys → length (xs ++ more) ≡ length (ys ++ map f more)
-length-both f [] [] [] same = refl
-length-both f [] [] (x ∷ more) same = ap suc (length-both f [] [] more refl)
-length-both f [] (y ∷ ys) more same = absurd (omega (arith, same))
-length-both f (x ∷ xs) [] more same = absurd (omega (arith, same))
-length-both f (x ∷ xs) (y ∷ ys) more same = ap suc (length-both f xs ys more (omega (arith, same)))
-
 -- as many records as names
 pub made-length : (rules : List Rule) (position : ℕ) (names : List (SubName × Registration)) (states : List SubState) (events : List Event) → length names ≡ length states
     → length (plain.subs_with rules position (subs_of names states) events) ≡ length (implying.names_with rules names events)
@@ -161,7 +126,7 @@ made-length rules position names states events lengths =
     ∙ ap (λ ns. length (subs_of ns (states ++ new_states position (drop (length names) ns)))) (names-added names entries)
     ∙ ap (λ new. length (subs_of (names ++ new_of names entries) (states ++ new_states position new))) (drop-append_seam names (new_of names entries))
     ∙ records-length (names ++ new_of names entries) (states ++ new_states position (new_of names entries))
-    (length-both (λ (entry : SubName × Registration). new_state entry.1.start position) names states (new_of names entries) lengths)
+    (omega (arith, lengths, length-append names (new_of names entries), length-append states (new_states position (new_of names entries)), length-map (new_of names entries) (λ (entry : SubName × Registration). new_state entry.1.start position)))
     ∙ ap length (sym (names-added names entries))
   where
     entries : List (SubName × Registration)
@@ -172,15 +137,11 @@ made-length rules position names states events lengths =
 abbrev AreBelow : ℕ → List (GrainId × PlainActivation) → Type 0
 AreBelow n grains = AllByRecursion (λ (g : GrainId × PlainActivation). IsBelow n g.1) grains
 
-longer : {A : Type 0} (xs ys : List A) → length xs ≤ length (xs ++ ys)
-longer [] ys = omega arith
-longer (x ∷ xs) ys = let rest = longer xs ys in omega (arith, rest)
-
 grains-same : (names more : List (SubName × Registration)) (grains : List (GrainId × PlainActivation)) → AreBelow (length names) grains → grains_of (names ++ more) grains ≡ grains_of names grains
 grains-same names [] grains below = ap (λ ns. grains_of ns grains) (append-nil names)
 grains-same names (entry ∷ more) grains below =
-    ap (λ ns. grains_of ns grains) (sym (append-one names entry more))
-    ∙ grains-same (names ++ entry ∷ []) more grains (numbered-more (length names) (length (names ++ entry ∷ [])) (longer names (entry ∷ [])) grains below)
+    ap (λ ns. grains_of ns grains) (sym (append_snoc names entry more))
+    ∙ grains-same (names ++ entry ∷ []) more grains (numbered-more (length names) (length (names ++ entry ∷ [])) (omega (arith, length-append names (entry ∷ []))) grains below)
     ∙ grains-before names entry grains below
 
 pub made-grains : (rules : List Rule) (names : List (SubName × Registration)) (events : List Event) (grains : List (GrainId × PlainActivation)) → AreBelow (length names) grains → grains_of (implying.names_with rules names events) grains ≡ grains_of names grains
@@ -202,5 +163,5 @@ made-known rules position names states events grains lengths below known =
 pub made-below : (rules : List Rule) (names : List (SubName × Registration)) (events : List Event) (grains : List (GrainId × PlainActivation)) → AreBelow (length names) grains → AreBelow (length (implying.names_with rules names events)) grains
 made-below rules names events grains below =
     numbered-more (length names) (length (implying.names_with rules names events))
-    (let further = longer names (new_of names (implying.all_implied rules events)) in omega (arith, further, ap length (names-added names (implying.all_implied rules events))))
+    (omega (arith, length-append names (new_of names (implying.all_implied rules events)), ap length (names-added names (implying.all_implied rules events))))
     grains below

@@ -1,14 +1,7 @@
 -- The elements of a list by ranks that rise are the list in order.
-use Rattle.std.proofs.Common.{◌≡◌, ◌∙◌, ◌<◌, ◌&&◌, ℕ, zero, suc, Bool, true, false, List, [], ◌∷◌, length, get_or, filter, map, nat_lt, Option, Some, None, refl, sym, ap, subst, arith, true≢false}
-use Rattle.std.proofs.lemmas.Bool.{and_from, false_from_ne_true, ltb-false, ltb-true}
-use Rattle.std.proofs.lemmas.List.{get_or-map, get_or_default, length-map}
-use Rattle.std.specs.Cmp.{IsStrictWeakOrder}
+use Rattle.step_core.proofs.Prelude.{◌≡◌, ◌∙◌, ◌<◌, ℕ, zero, suc, Bool, true, false, List, [], ◌∷◌, length, get_or, filter, map, nat_lt, Option, Some, None, refl, sym, ap, arith, true≢false, and_from, false_from_ne_true, ltb-false, ltb-true, get_or-map, get_or_default, length-map, IsStrictWeakOrder, slice_index, first_at-None, first_at-Some, first_at, in_order}
 use Rattle.std.specs.List.Sorted.{ties, IsStableBy}
-use Rattle.std.specs.Prelude.{slice_index}
-use Rattle.stream_ident.proofs.FirstLemmas.{first_at-None, first_at-Some}
-use Rattle.stream_ident.specs.Words.{first_at}
 use Rattle.ranked_index.specs.Ranking.{IsInverse, IsRanking}
-use Rattle.stream_model.specs.Draining.{in_order}
 use Rattle.step_core.proofs.SortedOnce.{one_ties, risen-stable}
 
 module _ {X : Type 0} (test : X → Bool) where

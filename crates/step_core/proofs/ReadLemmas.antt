@@ -1,17 +1,7 @@
 -- What is read of one record.
-use Rattle.std.proofs.Common.{◌≡◌, ◌∙◌, ap, sym, refl, ℕ, suc, ◌-◌, true, List, [], ◌∷◌, length, Option, Some, None, nat_lt, arith}
-use Rattle.std.proofs.lemmas.Bool.{false≢true, lt-ltb, ne_eqb}
-use Rattle.std.specs.Prelude.{pred, ◌==◌, if◌then◌else◌}
-use Rattle.stream_ident.specs.declared.ident.SubName.{SubName}
-use Rattle.stream_ident.specs.declared.token.Token.{Token}
-use Rattle.stream_ident.specs.Words.{past}
-use Rattle.stream_model.specs.declared.plain.Subscription.{Subscription}
-use Rattle.stream_model.specs.Bounds.{AreIn, IsWithinLimits}
-use Rattle.stream_model.specs.Draining.{last_handled}
-use Rattle.stream_model.specs.Positions.{sub_at, token_at}
-use Rattle.stream_model.proofs.RecordBounds.{handled-in}
-use Rattle.subscription_table.specs.Standing.{AreRecords}
-use Rattle.subscription_table.specs.Table.{no_entry, no_state, number_of}
+use Rattle.step_core.proofs.Prelude.{◌≡◌, ◌∙◌, ap, sym, refl, ℕ, suc, ◌-◌, true, List, [], ◌∷◌, length, Option, Some, None, nat_lt, arith, false≢true, lt-ltb, ne_eqb, if◌then◌else◌, past, SubName, Token, handled-in, AreIn, IsWithinLimits, last_handled, sub_at, token_at, Subscription, AreRecords, no_entry, no_state}
+use Rattle.std.specs.Prelude.{pred, ◌==◌}
+use Rattle.subscription_table.specs.Table.{number_of}
 use Rattle.step_core.specs.declared.parts.Parts.{Parts}
 use Rattle.step_core.specs.PlainOf.{plain_of}
 use Rattle.step_core.proofs.RecordOps.{no-record, record-found, record_at}

@@ -1,14 +1,5 @@
 -- One record of the parts found by its name, and changed.
-use Rattle.std.proofs.Common.{◌≡◌, ◌∙◌, ap, sym, ℕ, length, get_or, set, Option, Some, None}
-use Rattle.std.proofs.lemmas.List.{set-get_or}
-use Rattle.stream_ident.specs.declared.ident.SubName.{SubName}
-use Rattle.stream_ident.specs.SubName.{same_sub}
-use Rattle.stream_ident.specs.Words.{place_of}
-use Rattle.stream_model.specs.declared.plain.Subscription.{Subscription}
-use Rattle.stream_model.specs.Positions.{sub_at, with_sub}
-use Rattle.stream_model.proofs.Lookups.{place_of-change, place_of-none, place_of-value, place_of-within}
-use Rattle.consumer_grain.specs.declared.sub_state.SubState.{SubState}
-use Rattle.pubsub_registry.specs.declared.registration.Registration.{Registration}
+use Rattle.step_core.proofs.Prelude.{SubState, Registration, ◌≡◌, ◌∙◌, ap, sym, ℕ, length, get_or, set, Option, Some, None, set-get_or, same_sub, place_of, SubName, place_of-change, place_of-none, place_of-value, place_of-within, sub_at, with_sub, Subscription}
 use Rattle.step_core.specs.declared.parts.Parts.{Parts}
 use Rattle.step_core.specs.PlainOf.{plain_of}
 use Rattle.step_core.specs.View.{sub_of, subs_of}

@@ -1,28 +1,11 @@
 -- What agents ask of one record: the replies, and parts that agree with each other.
-use Rattle.std.proofs.Common.{◌≡◌, ◌∙◌, ap, sym, subst, refl, ℕ, ◌<◌, Bool, true, false, not, List, [], ◌∷◌, length, Some, None, arith}
-use Rattle.std.specs.Prelude.{if◌then◌else◌}
-use Rattle.std.specs.List.{All}
-use Rattle.std.proofs.lemmas.Bool.{cond_both}
+use Rattle.step_core.proofs.Prelude.{SubState, PlainQueue, Registration, IsDone, IsRefused, ack_at, handled_at, retry, StaleAgent, ◌≡◌, ◌∙◌, ap, sym, subst, refl, ℕ, ◌<◌, Bool, true, false, not, List, [], ◌∷◌, length, Some, None, arith, cond_both, All, if◌then◌else◌, SubName, Token, ack-stale, ack-unknown, retry-stale, retry-unknown, AreIn, IsWithinLimits, is_stale, Reply, PlainPartition, Subscription, AreRecords, PlainTable, no_entry, no_state, state_at, stepped}
 use Rattle.std.proofs.lemmas.List.Elements.{All-from_recursion}
-use Rattle.stream_model.proofs.Refusals.{ack-stale, ack-unknown, retry-stale, retry-unknown}
 use Rattle.step_core.proofs.RecordOps.{no-record}
-use Rattle.stream_ident.specs.declared.ident.SubName.{SubName}
-use Rattle.stream_ident.specs.declared.token.Token.{Token}
-use Rattle.stream_model.specs.declared.plain.PlainPartition.{PlainPartition}
-use Rattle.stream_model.specs.declared.plain.Subscription.{Subscription}
-use Rattle.stream_model.specs.Replies.{Reply}
 use Rattle.stream_model.specs.declared.reply.Reply.TheVariants as reply
-use Rattle.stream_model.specs.Bounds.{AreIn, IsWithinLimits}
 use Rattle.stream_model.specs.Pulling as plain
-use Rattle.stream_model.specs.Pulling.{is_stale}
-use Rattle.consumer_grain.specs.declared.sub_state.SubState.{SubState}
-use Rattle.partition_queue.specs.Queue.{PlainQueue}
-use Rattle.pubsub_registry.specs.declared.registration.Registration.{Registration}
-use Rattle.pulling_agent.proofs.CurrentLemmas.{IsDone, IsRefused}
-use Rattle.pulling_agent.specs.declared.agent.StaleAgent.{StaleAgent}
-use Rattle.pulling_agent.specs.Progress.{ack, ack_at, handled_at, retry}
-use Rattle.subscription_table.specs.Standing.{AreRecords}
-use Rattle.subscription_table.specs.Table.{PlainTable, no_entry, no_state, number_of, state_at, stepped}
+use Rattle.pulling_agent.specs.Progress.{ack}
+use Rattle.subscription_table.specs.Table.{number_of}
 use Rattle.pulling_agent.specs.declared.told.Acked.{Acked}
 use Rattle.pulling_agent.specs.declared.told.Retried.{Retried}
 use Rattle.step_core.specs.Assembly.{IsAssembled}

@@ -1,31 +1,15 @@
 -- Names that rise: those past a name are those up to the next one, then that one, then those past it.
-use Rattle.std.proofs.Common.{◌≡◌, ◌∙◌, ap, sym, refl, subst, Bool, true, false, ◌||◌, List, [], ◌∷◌, ◌++◌, filter, map, Option, Some, None, if◌then◌else◌}
-use Rattle.std.proofs.lemmas.Bool.{both_ways, cond_both, false_from_ne_true, or_parts, or_right}
-use Rattle.std.specs.List.{AllByRecursion, list_any}
-use Rattle.std.specs.Prelude.{⊤}
+use Rattle.step_core.proofs.Prelude.{◌≡◌, ◌∙◌, ap, sym, refl, subst, Bool, true, false, ◌||◌, List, [], ◌∷◌, ◌++◌, filter, map, Option, Some, None, both_ways, cond_both, false_from_ne_true, or_parts, or_right, AllByRecursion, list_any, ⊤, All-weaken, IsEquality, above, is_above, keys_where, least, lesser, value_at, in_order, insert_in_order}
+use Rattle.std.proofs.Common.{if◌then◌else◌}
+use Rattle.std.proofs.lemmas.Map.Views.{any-filter_same}
 use Rattle.stream_ident.proofs.Order.{IsOrder}
-use Rattle.stream_ident.proofs.SameValues.{IsEquality}
-use Rattle.stream_ident.specs.Words.{above, is_above, keys_where, least, lesser, value_at}
 use Rattle.stream_laws.proofs.KeyLists.{All-insert, any-in_order, least-none, least-of}
 use Rattle.stream_laws.proofs.Unique.{AreUnique, same-swap}
-use Rattle.stream_ident.proofs.EachOf.{All-weaken}
-use Rattle.stream_model.specs.Draining.{in_order, insert_in_order}
 
 -- all pass
 pub filter-all : {X : Type 0} (passes : X → Bool) (xs : List X) → AllByRecursion (λ x. passes x ≡ true) xs → filter passes xs ≡ xs
 filter-all passes [] all = refl
 filter-all passes (x ∷ xs) all = rw all.0 (ap (λ rest. x ∷ rest) (filter-all passes xs all.1))
-
--- an element that passes is among those that do
-any-filter : {X : Type 0} (test passes : X → Bool) (xs : List X) → AllByRecursion (λ x. test x ≡ true → passes x ≡ true) xs → list_any test xs ≡ true → list_any test (filter passes xs) ≡ true
-any-filter test passes [] all found = absurd (cc)
-any-filter {X} test passes (x ∷ xs) all found =
-    (elim (test x) as (λ b. test x ≡ b → (b || list_any test xs) ≡ true → list_any test (if passes x then x ∷ filter passes xs else filter passes xs) ≡ true) [
-      | true ↦ λ here _. rw (all.0 here, here) refl
-      | false ↦ λ there found.
-          let rest = any-filter test passes xs all.1 found in
-          cond_both (passes x) (x ∷ filter passes xs) (filter passes xs) (λ (ys : List X). list_any test ys ≡ true) (λ _. rw there rest) (λ _. rest)
-    ]) refl found
 
 -- those past a name, as those that pass a test
 pub above-filter : {X : Type 0} (lt : X → X → Bool) (after : Option X) (xs : List X) → above lt after xs ≡ filter (is_above lt after) xs
@@ -59,7 +43,7 @@ module _ {X : Type 0} (lt same : X → X → Bool) (order : IsOrder lt same) (eq
   rising-in_order (x ∷ xs) apart = rising-insert x (in_order lt xs) (any-in_order (same x) lt xs ∙ apart.0) (rising-in_order xs apart.1)
 
   -- what holds of each holds of one that is among them
-  of-any : (P : X → Type 0) (x : X) (xs : List X) → AllByRecursion P xs → list_any (same x) xs ≡ true → P x
+  pub of-any : (P : X → Type 0) (x : X) (xs : List X) → AllByRecursion P xs → list_any (same x) xs ≡ true → P x
   of-any P x [] all found = absurd (cc)
   of-any P x (y ∷ ys) all found =
       (elim (same x y) as (λ b. same x y ≡ b → (b || list_any (same x) ys) ≡ true → P x) [
@@ -139,11 +123,8 @@ module _ {X : Type 0} (lt same : X → X → Bool) (order : IsOrder lt same) (eq
           (λ not_below. (itself y, All-weaken (λ (z : X). lt z b ≡ false) (λ (z : X). lt z y ≡ false) (λ z above_b. under b z not_below above_b) ys (rest b found))))
 
   any-above : (after : Option X) (x : X) (xs : List X) → list_any (same x) xs ≡ true → is_above lt after x ≡ true → list_any (same x) (filter (is_above lt after) xs) ≡ true
-  any-above after x xs found past = any-filter (same x) (is_above lt after) xs (each xs) found
-    where
-      each : (ys : List X) → AllByRecursion (λ (y : X). same x y ≡ true → is_above lt after y ≡ true) ys
-      each [] = tt
-      each (y ∷ ys) = (λ alike. subst (λ (w : X). is_above lt after w ≡ true) (equality.equal x y alike) past, each ys)
+  any-above after x xs found past =
+      any-filter_same (same x) (is_above lt after) true (λ y alike. subst (λ (w : X). is_above lt after w ≡ true) (equality.equal x y alike) past) xs ∙ found
 
   -- one that is among some, and past the given one, isn't less than the least of those past it
   pub not-passed : (after : Option X) (x y : X) (xs : List X) → list_any (same x) xs ≡ true → is_above lt after x ≡ true → least lt (above lt after xs) ≡ Some y → lt x y ≡ false

@@ -1,18 +1,9 @@
 -- A rule that is added leaves parts that agree with each other.
-use Rattle.std.proofs.Common.{◌≡◌, ◌∙◌, ap, sym, subst, refl, ℕ, Bool, true, false, ◌&&◌, List, [], ◌∷◌, ◌++◌, length, nat_le}
-use Rattle.std.specs.Prelude.{if◌then◌else◌}
-use Rattle.std.specs.List.{list_any}
-use Rattle.std.proofs.lemmas.Bool.{cond_both}
-use Rattle.stream_ident.specs.declared.rule.Rule.{Rule}
-use Rattle.stream_ident.specs.Name.{same_name}
-use Rattle.stream_model.specs.declared.plain.PlainPartition.{PlainPartition}
-use Rattle.stream_model.specs.Replies.{Reply}
+use Rattle.step_core.proofs.Prelude.{RuleAdded, ◌≡◌, ◌∙◌, ap, sym, subst, refl, ℕ, true, ◌&&◌, List, [], ◌∷◌, ◌++◌, length, nat_le, cond_both, list_any, same_name, Rule, Reply, takes_memory, PlainPartition, PlainTable}
 use Rattle.stream_model.specs.Publishing as plain
-use Rattle.stream_model.specs.Step.{takes_memory}
 use Rattle.pubsub_registry.specs.Registry as registry
-use Rattle.pubsub_registry.specs.declared.told.RuleAdded.{RuleAdded}
 use Rattle.pubsub_registry.specs.declared.told.RuleAdded.TheVariants as rule_told
-use Rattle.subscription_table.specs.Table.{PlainTable, add_rule}
+use Rattle.subscription_table.specs.Table.{add_rule}
 use Rattle.step_core.specs.Assembly.{IsAssembled}
 use Rattle.step_core.specs.Known.{AreKnown}
 use Rattle.step_core.specs.PlainOf.{plain_of}
@@ -21,34 +12,23 @@ use Rattle.step_core.specs.declared.parts.Parts.{Parts}
 use Rattle.step_core.proofs.AssembledTable.{IsAsLarge, assembled-subs}
 use Rattle.step_core.proofs.ProducerOps.{rule-parts}
 
-add_rule-large : (t : PlainTable) (kind namespace : List ℕ) (seq : ℕ) → IsAsLarge t (add_rule t kind namespace seq).0
-add_rule-large t kind namespace seq =
-    by (list_any (λ (rule : Rule). same_name kind rule.kind && same_name namespace rule.namespace) t.registry.rules) (nat_le t.registry.most_rules (length t.registry.rules))
+-- the names are as before, and the room
+abbrev Keeps : PlainTable → registry.PlainRegistry × RuleAdded → Type 0
+Keeps t out = (out.0.names ≡ t.registry.names) × IsAsLarge t (record t { registry = out.0 })
+
+add_rule-keeps : (t : PlainTable) (kind namespace : List ℕ) (seq : ℕ) → Keeps t (registry.add_rule t.registry kind namespace seq)
+add_rule-keeps t kind namespace seq =
+    cond_both (list_any (λ (rule : Rule). same_name kind rule.kind && same_name namespace rule.namespace) t.registry.rules) _ _ (Keeps t) (λ _. kept t.registry.rules)
+    (λ _. cond_both (nat_le t.registry.most_rules (length t.registry.rules)) _ _ (Keeps t) (λ _. kept t.registry.rules) (λ _. kept (t.registry.rules ++ record { kind = kind; namespace = namespace; from = seq } ∷ [])))
   where
-    added : registry.PlainRegistry
-    added = record t.registry { rules = t.registry.rules ++ record { kind = kind; namespace = namespace; from = seq } ∷ [] }
-
-    picked : Bool → Bool → registry.PlainRegistry × RuleAdded
-    picked there full = if there then (t.registry, rule_told.RuleThere) else if full then (t.registry, rule_told.TooMany) else (added, rule_told.Added)
-
-    by : (there full : Bool) → IsAsLarge t (record t { registry = (picked there full).0 })
-    by true full = record { names = refl; most_names = refl; most_rules = refl }
-    by false true = record { names = refl; most_names = refl; most_rules = refl }
-    by false false = record { names = refl; most_names = refl; most_rules = refl }
-
--- the names are as before
-add_rule-names : (t : PlainTable) (kind namespace : List ℕ) (seq : ℕ) → (add_rule t kind namespace seq).0.registry.names ≡ t.registry.names
-add_rule-names t kind namespace seq =
-    cond_both (list_any (λ (rule : Rule). same_name kind rule.kind && same_name namespace rule.namespace) t.registry.rules) _ _ Same (λ _. refl)
-    (λ _. cond_both (nat_le t.registry.most_rules (length t.registry.rules)) _ _ Same (λ _. refl) (λ _. refl))
-  where
-    Same : registry.PlainRegistry × RuleAdded → Type 0
-    Same out = out.0.names ≡ t.registry.names
+    kept : (rules : List Rule) → (t.registry.names ≡ t.registry.names) × IsAsLarge t (record t { registry = record t.registry { rules = rules } })
+    kept rules = (refl, record { names = refl; most_names = refl; most_rules = refl })
 
 pub rule-assembled : (parts : Parts) (kind namespace : List ℕ) (seq : ℕ) → IsAssembled parts → IsAssembled (record parts { subs = (add_rule parts.subs kind namespace seq).0 })
 rule-assembled parts kind namespace seq assembled =
-    assembled-subs parts (add_rule parts.subs kind namespace seq).0 (add_rule-large parts.subs kind namespace seq)
-    (subst (λ names. AreKnown names parts.subs.states parts.grains) (sym (add_rule-names parts.subs kind namespace seq)) assembled.known)
+    let keeps = add_rule-keeps parts.subs kind namespace seq in
+    assembled-subs parts (add_rule parts.subs kind namespace seq).0 keeps.1
+    (subst (λ names. AreKnown names parts.subs.states parts.grains) (sym keeps.0) assembled.known)
     assembled
 
 abbrev told_by : Parts → PlainTable × RuleAdded → PlainPartition × Reply

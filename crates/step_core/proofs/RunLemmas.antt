@@ -1,9 +1,7 @@
 -- Operations one after another, and one more.
-use Rattle.std.proofs.Common.{◌≡◌, ◌<◌, List, [], ◌∷◌, ◌++◌, length, refl, sym, ap, ◌∙◌, append_assoc, append-nil, arith, inl}
-use Rattle.stream_model.specs.declared.op.Op.{Op}
-use Rattle.stream_model.specs.declared.plain.PlainPartition.{PlainPartition}
-use Rattle.stream_model.specs.Replies.{Reply}
-use Rattle.stream_model.specs.Step.{step, after_steps, replies_of}
+use Rattle.step_core.proofs.Prelude.{◌≡◌, ◌<◌, List, [], ◌∷◌, ◌++◌, length, refl, sym, ap, ◌∙◌, arith, inl, Reply, after_steps, replies_of, Op, PlainPartition}
+use Rattle.std.proofs.Common.{append_assoc, append-nil}
+use Rattle.stream_model.specs.Step.{step}
 use Rattle.step_core.specs.Run.{Does, StopsBefore}
 
 after_steps-more : (p : PlainPartition) (ops : List Op) (op : Op) → after_steps p (ops ++ op ∷ []) ≡ (step (after_steps p ops) op).0

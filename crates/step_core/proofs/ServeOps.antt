@@ -1,33 +1,12 @@
 -- A subscription served by its number: what is left to do after each event that was handled at once.
-use Rattle.std.proofs.Common.{◌≡◌, ◌∙◌, ap, sym, refl, subst, ℕ, suc, ◌-◌, ◌<◌, Bool, true, false, List, [], ◌∷◌, length, map, get_or, Option, Some, None, Result, if◌then◌else◌, arith}
-use Rattle.std.proofs.lemmas.List.{length-map}
-use Rattle.std.specs.Option.{option_map}
-use Rattle.stream_ident.specs.declared.ident.GrainId.{GrainId}
-use Rattle.stream_ident.specs.declared.ident.SubName.{SubName}
-use Rattle.stream_ident.specs.declared.ident.SubName.TheVariants.{Explicit}
-use Rattle.stream_ident.specs.SubName.{same_sub}
-use Rattle.stream_ident.specs.Words.{value_at, with_value}
-use Rattle.stream_ident.proofs.SameValues.{sub_equality}
-use Rattle.stream_model.specs.declared.plain.PlainPartition.{PlainPartition}
-use Rattle.stream_model.specs.declared.plain.Subscription.{Subscription}
+use Rattle.step_core.proofs.Prelude.{◌≡◌, ◌∙◌, ap, sym, refl, subst, ℕ, suc, ◌-◌, ◌<◌, length, get_or, Option, Some, None, arith, length-map, option_map, sub_equality, same_sub, GrainId, SubName, Explicit, with_value-at, sub_at, PlainPartition, Subscription}
 use Rattle.stream_model.specs.Draining as draining
 use Rattle.stream_model.specs.Draining.{serve}
-use Rattle.stream_model.specs.Positions.{sub_at}
-use Rattle.stream_model.proofs.Values.{with_value-at}
 use Rattle.step_core.specs.DrainPhases.{Ends, after_deliveries}
-use Rattle.step_core.specs.Serving.{cursor_of, grain_of, name_of, names_of, serve_up_to, turned, with_turn, IsHandledOnce}
+use Rattle.step_core.specs.Serving.{cursor_of, grain_of, name_of, names_of, serve_up_to, turned, IsHandledOnce}
 use Rattle.step_core.proofs.DrainLoops.{Suffices}
 use Rattle.step_core.proofs.DrainRounds.{serve-known}
-use Rattle.step_core.proofs.OnceOps.{turn-more}
-
--- a value that is set where its key has one keeps the keys
-with_value-keys : {K V : Type 0} (same : K → K → Bool) (k : K) (v w : V) (entries : List (K × V)) → value_at same k entries ≡ Some w → map (λ (entry : K × V). entry.0) (with_value same k v entries) ≡ map (λ (entry : K × V). entry.0) entries
-with_value-keys same k v w [] found = absurd (cc)
-with_value-keys {K} {V} same k v w (entry ∷ entries) found =
-    (elim (same k entry.0) as (λ b. (if b then Some entry.1 else value_at same k entries) ≡ Some w → map (λ (e : K × V). e.0) (if b then (entry.0, v) ∷ entries else entry ∷ with_value same k v entries) ≡ entry.0 ∷ map (λ (e : K × V). e.0) entries) [
-      | true ↦ λ here. refl
-      | false ↦ λ there. ap (λ rest. entry.0 ∷ rest) (with_value-keys same k v w entries there)
-    ]) found
+use Rattle.step_core.proofs.OnceOps.{turn-more, with_value-map}
 
 -- the subscription where the drain has come to, and that what is left to do makes the whole
 pub record IsUnderway (start here : PlainPartition) (s : SubName) (r : Subscription) (whole left : ℕ) : Type 0 where
@@ -90,7 +69,7 @@ serves-next start here new number whole left more is_more serves handled = recor
     kept : names_of new ≡ names_of here
     kept =
         ap names_of handled.is
-        ∙ with_value-keys same_sub s (turned handled.record_of handled.position) handled.record_of here.subs handled.can.found
+        ∙ with_value-map (λ (entry : SubName × Subscription). entry.0) same_sub s handled.record_of (turned handled.record_of handled.position) here.subs handled.can.found (λ _. refl)
 
     turned-found : sub_at new s ≡ Some (turned handled.record_of handled.position)
     turned-found =

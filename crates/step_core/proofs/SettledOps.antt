@@ -1,30 +1,17 @@
 -- A subscription that is settled: to serve it changes nothing.
-use Rattle.std.proofs.Common.{◌≡◌, ◌∙◌, ap, sym, refl, subst, ℕ, zero, suc, pred, ◌-◌, ◌≤◌, ◌==◌, ◌||◌, max, ◌<◌, nat_le, nat_lt, Bool, true, false, List, [], ◌∷◌, length, Option, Some, None, Ok, if◌then◌else◌, arith}
-use Rattle.std.proofs.lemmas.Bool.{and_parts, eq-eqb, eqb-true, le-leb, le-ltb, leb-true, ltb-false, ltb-true, lt-ltb, not-true}
-use Rattle.stream_ident.specs.declared.ident.GrainId.{GrainId}
-use Rattle.stream_ident.specs.declared.ident.SubName.{SubName}
-use Rattle.stream_ident.specs.declared.token.Token.{Token}
-use Rattle.stream_ident.proofs.SameValues.{sub_equality}
-use Rattle.stream_ident.specs.SubName.{same_sub}
-use Rattle.stream_ident.specs.Words.{past, with_value}
-use Rattle.stream_model.specs.declared.op.Op.TheVariants.{Ack, Deliver}
-use Rattle.stream_model.specs.declared.plain.PlainPartition.{PlainPartition}
-use Rattle.stream_model.specs.declared.plain.Subscription.{Subscription}
-use Rattle.stream_model.specs.Replies.{Reply}
+use Rattle.step_core.proofs.Prelude.{◌≡◌, ◌∙◌, ap, sym, refl, subst, ℕ, suc, pred, ◌-◌, ◌≤◌, ◌==◌, ◌||◌, max, ◌<◌, nat_le, nat_lt, Bool, true, false, List, [], ◌∷◌, length, Option, Some, None, Ok, arith, and_parts, eq-eqb, eqb-true, le-leb, le-ltb, leb-true, ltb-false, ltb-true, lt-ltb, not-true, sub_equality, same_sub, past, with_value, GrainId, SubName, Token, deliver-nothing, next-none, running_of, reached-after, with_value-at, after_ack, after_last_deliver, and_then, deliver_up_to, last_handled, grain_at, is_outstanding, next_position, running_in, sub_at, token_at, waiting_in, with_sub, acknowledged, Reply, IsReached, Ack, Deliver, PlainPartition, Subscription}
+use Rattle.std.proofs.Common.{if◌then◌else◌}
 use Rattle.stream_model.specs.declared.reply.Reply.TheVariants as reply
-use Rattle.stream_model.specs.Draining.{acknowledge, after_ack, after_deliver, after_last_deliver, and_then, deliver_all, deliver_once_more, deliver_up_to, done, last_handled, serve}
-use Rattle.stream_model.specs.Positions.{grain_at, is_outstanding, is_unacknowledged, next_position, running_in, sub_at, token_at, waiting_in, with_sub}
-use Rattle.stream_model.specs.Pulling.{acknowledged, caught_up}
-use Rattle.stream_model.specs.Step.{step, IsReached}
-use Rattle.stream_model.proofs.Reaching.{reached-after}
-use Rattle.stream_model.proofs.Values.{with_value-at}
+use Rattle.stream_model.specs.Draining.{acknowledge, after_deliver, deliver_all, deliver_once_more, serve}
+use Rattle.stream_model.specs.Positions.{is_unacknowledged}
+use Rattle.stream_model.specs.Pulling.{caught_up}
+use Rattle.stream_model.specs.Step.{step}
 use Rattle.stream_laws.proofs.DrainAck.{ack-first}
-use Rattle.stream_laws.proofs.DrainDeliver.{deliver-nothing, next-none}
 use Rattle.stream_laws.proofs.FitsOne.{with_value-same}
-use Rattle.stream_laws.proofs.Invariant.{running_of}
 use Rattle.stream_laws.proofs.LastHandled.{HasLast, handled_at-last, has-last}
 use Rattle.step_core.specs.DrainPhases.{Ends, after_deliveries}
 use Rattle.step_core.specs.Serving.{is_held, is_settled, is_settled_in, IsCaughtUp}
+use Rattle.step_core.proofs.DrainReplies.{deliver-told}
 use Rattle.step_core.proofs.DrainSteps.{ends-done, ends-last, ends-then}
 use Rattle.step_core.proofs.OnceOps.{with_value-twice}
 use Rattle.step_core.proofs.Shared.{history-of}
@@ -71,15 +58,10 @@ module _ (p : PlainPartition) (s : SubName) (r : Subscription) (settled : IsSett
       sym (deliver-nothing p s r settled.found settled.is_open (next-none p r settled.seen)
       ∙ ap {B = PlainPartition × Reply} (λ q. (q, reply.Nothing)) (ap (with_sub p s) caught_up-same ∙ with_sub-same p s r settled.found))
 
-  after-nothing : (n : ℕ) (g : GrainId) → done p ≡ after_deliver n s g p reply.Nothing
-  unfolding after_deliver
-  after-nothing zero g = refl
-  after-nothing (suc n) g = refl
-
   ends-delivers : Ends p p (Some None) (deliver_all s r p)
   unfolding deliver_all
   ends-delivers =
-      ends-last p p None (Deliver p.generation s) reply.Nothing (λ q answer. after_deliver (p.high - r.cursor) s r.grain q answer) deliver-settled (after-nothing (p.high - r.cursor) r.grain)
+      ends-last p p None (Deliver p.generation s) reply.Nothing (λ q answer. after_deliver (p.high - r.cursor) s r.grain q answer) deliver-settled (deliver-told (p.high - r.cursor) s r.grain p reply.Nothing)
 
   ends-once_more : Ends p p (Some None) (deliver_once_more s p)
   unfolding deliver_once_more
@@ -162,27 +144,22 @@ module _ (p : PlainPartition) (s : SubName) (r : Subscription) (reached : IsReac
   abbrev x : Bool → PlainPartition
   x unacked = with_sub p s (first unacked)
 
-  outstanding-is : is_outstanding p s r ≡ is_unacknowledged r
-  outstanding-is = by (nat_lt 0 (length (waiting_in s (grain_at p r.grain).mailbox))) (nat_lt 0 (length (running_in s (grain_at p r.grain).running))) (is_unacknowledged r) free
+  outstanding-by : (handled : Bool) → (nat_lt 0 (length (waiting_in s (grain_at p r.grain).mailbox)) || (nat_lt 0 (length (running_in s (grain_at p r.grain).running)) || handled)) ≡ handled
+  outstanding-by handled = by (nat_lt 0 (length (waiting_in s (grain_at p r.grain).mailbox))) (nat_lt 0 (length (running_in s (grain_at p r.grain).running))) free
     where
-      by : (waits runs handled : Bool) → (waits || runs) ≡ false → (waits || (runs || handled)) ≡ handled
-      by true runs handled is = absurd (cc)
-      by false true handled is = absurd (cc)
-      by false false handled is = refl
+      by : (waits runs : Bool) → (waits || runs) ≡ false → (waits || (runs || handled)) ≡ handled
+      by true runs is = absurd (cc)
+      by false true is = absurd (cc)
+      by false false is = refl
 
   delivers : (unacked : Bool) → is_unacknowledged r ≡ unacked → step p (Deliver p.generation s) ≡ (x unacked, reply.Nothing)
   delivers unacked is =
       deliver-nothing p s r found is_open none
-      ∙ ap {B = PlainPartition × Reply} (λ b. (with_sub p s (record r { cursor = top; resume = if b then r.resume else top }), reply.Nothing)) (outstanding-is ∙ is)
-
-  finds-nothing : (n : ℕ) (g : GrainId) (y : PlainPartition) → done y ≡ after_deliver n s g y reply.Nothing
-  unfolding after_deliver
-  finds-nothing zero g y = refl
-  finds-nothing (suc n) g y = refl
+      ∙ ap {B = PlainPartition × Reply} (λ b. (with_sub p s (record r { cursor = top; resume = if b then r.resume else top }), reply.Nothing)) (outstanding-by (is_unacknowledged r) ∙ is)
 
   ends-first : (unacked : Bool) → is_unacknowledged r ≡ unacked → (n : ℕ) (g : GrainId) → Ends p (x unacked) (Some None) (deliver_up_to n s g p)
   ends-first unacked is n g =
-      ends-last p (x unacked) None (Deliver p.generation s) reply.Nothing (λ y answer. after_deliver n s g y answer) (sym (delivers unacked is)) (finds-nothing n g (x unacked))
+      ends-last p (x unacked) None (Deliver p.generation s) reply.Nothing (λ y answer. after_deliver n s g y answer) (sym (delivers unacked is)) (deliver-told n s g (x unacked) reply.Nothing)
 
   reached-first : (unacked : Bool) → is_unacknowledged r ≡ unacked → IsReached (x unacked)
   reached-first unacked is = reached-after p (x unacked) (Deliver p.generation s) (Ok reply.Nothing) (sym (delivers unacked is)) reached
@@ -238,13 +215,7 @@ module _ (p : PlainPartition) (s : SubName) (r : Subscription) (reached : IsReac
 
     free-again : is_outstanding p2 s r2 ≡ false
     free-again =
-        by (nat_lt 0 (length (waiting_in s (grain_at p r.grain).mailbox))) (nat_lt 0 (length (running_in s (grain_at p r.grain).running))) (is_unacknowledged r2) free
-        (ap (λ n. nat_lt n (past r.handled)) resume-is ∙ le-ltb (past r.handled) (past r.handled) (omega arith))
-      where
-        by : (waits runs handled : Bool) → (waits || runs) ≡ false → handled ≡ false → (waits || (runs || handled)) ≡ false
-        by true runs handled is unhandled = absurd (cc)
-        by false true handled is unhandled = absurd (cc)
-        by false false handled is unhandled = unhandled
+        outstanding-by (is_unacknowledged r2) ∙ ap (λ n. nat_lt n (past r.handled)) resume-is ∙ le-ltb (past r.handled) (past r.handled) (omega arith)
 
     once_more : step p2 (Deliver p2.generation s) ≡ (p3, reply.Nothing)
     once_more =

@@ -1,22 +1,15 @@
 -- What each operation starts from.
-use Rattle.std.proofs.Common.{◌≡◌, refl, subst, ℕ, zero, suc, ◌<◌, ◌≤◌, true, List, [], ◌∷◌, length, get_or, Some, arith}
-use Rattle.std.specs.List.{slice_get}
+use Rattle.step_core.proofs.Prelude.{AreUnique, Registration, high, ◌≡◌, subst, ℕ, ◌≤◌, true, List, length, get_or, slice_get-get_or, same_sub, SubName, IsReached, PlainPartition}
+use Rattle.std.proofs.Math.ListN.{get_or-map}
 use Rattle.std.specs.Prelude.{reverse}
-use Rattle.stream_ident.specs.declared.ident.SubName.{SubName}
-use Rattle.stream_ident.specs.SubName.{same_sub}
-use Rattle.stream_model.specs.declared.plain.PlainPartition.{PlainPartition}
-use Rattle.stream_model.specs.Step.{IsReached}
 use Rattle.stream_laws.proofs.Invariant.{Fits}
 use Rattle.stream_laws.proofs.KeptStep.{kept-step}
 use Rattle.stream_laws.proofs.Legal.{fits-stands}
 use Rattle.stream_laws.proofs.Summary.{Summary, summary}
-use Rattle.pubsub_registry.specs.declared.registration.Registration.{Registration}
-use Rattle.pubsub_registry.specs.Index.{AreUnique}
 use Rattle.subscription_table.specs.Table as table
 use Rattle.step_core.specs.Numbers.{AreDistinct}
 use Rattle.step_core.specs.View.{name_at}
 use Rattle.step_core.proofs.NamesOps.{name-of-entry}
-use Rattle.queue_cache.specs.Cache.{high}
 use Rattle.step_core.specs.Assembly.{Agrees}
 use Rattle.step_core.specs.PlainOf.{plain_of}
 use Rattle.step_core.specs.declared.parts.Parts.{Parts}
@@ -34,22 +27,12 @@ history-of p reached = record {
 
 -- the name under a number, as a view and as a table says it
 pub name-same : (t : table.PlainTable) (number : ℕ) → name_at t.registry.names number ≡ table.name_at t number
-name-same t number = by t.registry.names number
-  where
-    by : (names : List (SubName × Registration)) (n : ℕ) → name_at names n ≡ (get_or names n table.no_entry).0
-    by [] n = refl
-    by (entry ∷ entries) zero = refl
-    by (entry ∷ entries) (suc n) = by entries n
-
-get-slice : {A : Type 0} (xs : List A) (i : ℕ) (d : A) → i < length xs → slice_get xs i ≡ Some (get_or xs i d)
-get-slice [] i d within = absurd (omega (arith, within))
-get-slice (x ∷ xs) zero d within = refl
-get-slice (x ∷ xs) (suc i) d within = get-slice xs i d (omega (arith, within))
+name-same t number = get_or-map (λ (entry : SubName × Registration). entry.0) t.registry.names number table.no_entry
 
 pub distinct-of-unique : (names : List (SubName × Registration)) → AreUnique names → AreDistinct names
 distinct-of-unique names unique i j within_i within_j same =
     unique i j (get_or names i table.no_entry) (get_or names j table.no_entry)
-    (get-slice names i table.no_entry within_i) (get-slice names j table.no_entry within_j)
+    (slice_get-get_or names i table.no_entry within_i) (slice_get-get_or names j table.no_entry within_j)
     (subst (λ s. same_sub (get_or names i table.no_entry).0 s ≡ true) (name-of-entry names j table.no_entry within_j)
     (subst (λ s. same_sub s (name_at names j) ≡ true) (name-of-entry names i table.no_entry within_i) same))
 

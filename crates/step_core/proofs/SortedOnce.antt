@@ -1,12 +1,6 @@
 -- What a stable sort gives is one list: the elements from the least to the greatest, with ties as they were.
-use Rattle.std.proofs.Common.{◌≡◌, ◌<◌, ◌≤◌, ℕ, suc, Bool, true, false, ◌==◌, ◌&&◌, not, cond, List, [], ◌∷◌, length, get_or, filter, refl, sym, ap, subst, ◌∙◌, arith}
-use Rattle.std.proofs.lemmas.Bool.{and_parts, cond_both, eqb-false, eqb-true, false_from_ne_true, not-true}
-use Rattle.std.specs.Cmp.{IsStrictWeakOrder}
-use Rattle.std.specs.List.{AllByRecursion}
+use Rattle.step_core.proofs.Prelude.{◌≡◌, ◌<◌, ◌≤◌, ℕ, suc, Bool, true, false, ◌==◌, ◌&&◌, not, cond, List, [], ◌∷◌, length, get_or, filter, refl, sym, ap, subst, ◌∙◌, arith, and_parts, cond_both, eqb-false, eqb-true, false_from_ne_true, not-true, IsStrictWeakOrder, AllByRecursion, ⊤, All-filter, in_order, insert_in_order}
 use Rattle.std.specs.List.Sorted.{ties, IsStableBy}
-use Rattle.std.specs.Prelude.{⊤}
-use Rattle.stream_ident.proofs.EachOf.{All-filter}
-use Rattle.stream_model.specs.Draining.{in_order, insert_in_order}
 
 -- the first of what passes is the first element, where that passes
 first_is : {X : Type 0} (t : X → Bool) (x y : X) (xs ys : List X) → t y ≡ true → x ∷ xs ≡ filter t (y ∷ ys) → x ≡ y

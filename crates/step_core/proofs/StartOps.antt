@@ -1,20 +1,10 @@
 -- Where a subscription starts, by what the parts tell.
-use Rattle.std.proofs.Common.{◌≡◌, ◌∙◌, ap, sym, ℕ, Bool, true, false}
-use Rattle.stream_ident.specs.declared.ident.GrainId.{GrainId}
-use Rattle.stream_ident.specs.declared.ident.StreamId.{StreamId}
-use Rattle.stream_ident.specs.declared.token.Token.{Token}
-use Rattle.stream_ident.specs.Event.{batch_token}
-use Rattle.stream_ident.specs.Token.{token_lt}
+use Rattle.step_core.proofs.Prelude.{lower_in, PlainCache, high, ◌≡◌, ◌∙◌, ap, sym, ℕ, Bool, true, false, batch_token, token_lt, GrainId, StreamId, Token, high_token, low_token, subscribe_at, Reply, PlainPartition}
 use Rattle.stream_model.specs.declared.op.Start.{Start}
 use Rattle.stream_model.specs.declared.op.Start.TheVariants.{Latest, At}
-use Rattle.stream_model.specs.declared.plain.PlainPartition.{PlainPartition}
-use Rattle.stream_model.specs.Replies.{Reply}
 use Rattle.stream_model.specs.declared.reply.Reply.TheVariants as reply
-use Rattle.stream_model.specs.Positions.{high_token, low_token}
-use Rattle.stream_model.specs.Publishing.{subscribe, subscribe_at}
+use Rattle.stream_model.specs.Publishing.{subscribe}
 use Rattle.stream_model.proofs.PublishingSteps.{subscribe-at, subscribe-latest, subscribe-miss}
-use Rattle.cache_cursor.specs.Cursor.{lower_in}
-use Rattle.queue_cache.specs.Cache.{PlainCache, high}
 use Rattle.step_core.specs.Assembly.{HasEvents}
 use Rattle.step_core.specs.PlainOf.{plain_of}
 use Rattle.step_core.specs.declared.parts.Parts.{Parts}

@@ -1,35 +1,14 @@
 -- What subscribers ask, done by the parts.
-use Rattle.std.proofs.Common.{◌≡◌, ◌∙◌, ap, sym, refl, ℕ, ◌<◌, Bool, true, false, not, List, [], ◌∷◌, length, map, filter, get_or, set, Some, None, ◌==◌}
-use Rattle.std.specs.Prelude.{if◌then◌else◌}
-use Rattle.std.specs.List.{AllByRecursion}
-use Rattle.std.specs.Option.{option_map}
-use Rattle.stream_ident.specs.declared.ident.GrainId.{GrainId}
-use Rattle.stream_ident.specs.declared.ident.SubName.{SubName}
+use Rattle.step_core.proofs.Prelude.{PlainActivation, forgotten, closed, RunningTurn, Delivery, SubState, closed_registration, Registration, ◌≡◌, ◌∙◌, ap, sym, refl, ℕ, ◌<◌, Bool, true, false, not, List, [], ◌∷◌, length, map, filter, get_or, set, Some, ◌==◌, cond_both, AllByRecursion, option_map, if◌then◌else◌, same_grain, same_sub, changed_value, place_of, GrainId, SubName, with_sub, Reply, Grain, PlainPartition}
 use Rattle.stream_ident.specs.declared.ident.SubName.TheVariants as name
-use Rattle.stream_ident.specs.Name.{same_grain}
-use Rattle.stream_ident.specs.SubName.{same_sub}
-use Rattle.stream_ident.specs.Words.{change_at, changed_value, place_of}
 use Rattle.stream_model.specs.declared.plain.Delivery as plain_delivery
-use Rattle.stream_model.specs.declared.plain.Grain.{Grain}
 use Rattle.stream_model.specs.declared.plain.RunningTurn as plain_turn
-use Rattle.stream_model.specs.declared.plain.PlainPartition.{PlainPartition}
-use Rattle.stream_model.specs.Replies.{Reply}
 use Rattle.stream_model.specs.declared.reply.Reply.TheVariants as reply
-use Rattle.stream_model.specs.Positions.{with_sub}
 use Rattle.stream_model.specs.Publishing as plain
-use Rattle.stream_model.proofs.ChangedValues.{place_of-changed, place_of-unchanged}
-use Rattle.consumer_grain.specs.declared.mailbox.Delivery.{Delivery}
-use Rattle.consumer_grain.specs.declared.activation.RunningTurn.{RunningTurn}
-use Rattle.consumer_grain.specs.Activations.{PlainActivation, forgotten}
-use Rattle.consumer_grain.specs.Subscriptions.{closed}
-use Rattle.consumer_grain.specs.declared.sub_state.SubState.{SubState}
-use Rattle.pubsub_registry.specs.declared.registration.Registration.{Registration}
-use Rattle.pubsub_registry.specs.Registry.{closed_registration}
 use Rattle.step_core.specs.Numbers.{AreDistinct, IsBelow}
 use Rattle.step_core.specs.declared.parts.Parts.{Parts}
 use Rattle.step_core.specs.PlainOf.{plain_of}
 use Rattle.step_core.specs.View.{delivery_of, grain_of, grains_of, name_at, sub_of, subs_of}
-use Rattle.step_core.proofs.GrainOps.{activation_at, activation-changed, place_of_grain}
 use Rattle.step_core.proofs.NumberLemmas.{same-number}
 use Rattle.step_core.proofs.RecordOps.{record-found, record-set, record_at}
 
@@ -37,24 +16,16 @@ use Rattle.step_core.proofs.RecordOps.{record-found, record-set, record_at}
 
 pub closed-records : (s : SubName) (names : List (SubName × Registration)) (states : List SubState) → subs_of (changed_value same_sub s closed_registration names) states ≡ subs_of names states
 closed-records s [] states = refl
-closed-records s (entry ∷ names) [] = by (same_sub s entry.0)
-  where
-    by : (b : Bool) → subs_of (if b then (entry.0, closed_registration entry.1) ∷ names else entry ∷ changed_value same_sub s closed_registration names) [] ≡ []
-    by true = refl
-    by false = refl
-closed-records s (entry ∷ names) (state ∷ states) = by (same_sub s entry.0) (closed-records s names states)
-  where
-    by : (b : Bool) → subs_of (changed_value same_sub s closed_registration names) states ≡ subs_of names states → subs_of (if b then (entry.0, closed_registration entry.1) ∷ names else entry ∷ changed_value same_sub s closed_registration names) (state ∷ states) ≡ sub_of entry state ∷ subs_of names states
-    by true rest = refl
-    by false rest = ap (λ subs. sub_of entry state ∷ subs) rest
+closed-records s (entry ∷ names) [] = cond_both (same_sub s entry.0) _ _ (λ (now : List (SubName × Registration)). subs_of now [] ≡ []) (λ _. refl) (λ _. refl)
+closed-records s (entry ∷ names) (state ∷ states) =
+    cond_both (same_sub s entry.0) _ _ (λ (now : List (SubName × Registration)). subs_of now (state ∷ states) ≡ sub_of entry state ∷ subs_of names states) (λ _. refl)
+    (λ _. ap (λ subs. sub_of entry state ∷ subs) (closed-records s names states))
 
 closed-names : (s : SubName) (names : List (SubName × Registration)) → map (λ (entry : SubName × Registration). entry.0) (changed_value same_sub s closed_registration names) ≡ map (λ (entry : SubName × Registration). entry.0) names
 closed-names s [] = refl
-closed-names s (entry ∷ names) = by (same_sub s entry.0) (closed-names s names)
-  where
-    by : (b : Bool) → map (λ (e : SubName × Registration). e.0) (changed_value same_sub s closed_registration names) ≡ map (λ (e : SubName × Registration). e.0) names → map (λ (e : SubName × Registration). e.0) (if b then (entry.0, closed_registration entry.1) ∷ names else entry ∷ changed_value same_sub s closed_registration names) ≡ entry.0 ∷ map (λ (e : SubName × Registration). e.0) names
-    by true rest = refl
-    by false rest = ap (λ names. entry.0 ∷ names) rest
+closed-names s (entry ∷ names) =
+    cond_both (same_sub s entry.0) _ _ (λ (now : List (SubName × Registration)). map (λ (e : SubName × Registration). e.0) now ≡ map (λ (e : SubName × Registration). e.0) (entry ∷ names)) (λ _. refl)
+    (λ _. ap (λ names. entry.0 ∷ names) (closed-names s names))
 
 -- a grain is seen by the names alone
 delivery-by : List SubName → Delivery → plain_delivery.Delivery
@@ -110,7 +81,7 @@ pub unsubscribe-parts : (parts : Parts) (number sub : ℕ) (d : SubName × Regis
     else (plain_of (with_closed parts (name.Explicit number) (set parts.subs.states sub (closed (get_or parts.subs.states sub e))) grains), reply.Unsubscribed (length (get_or parts.subs.states sub e).handled)))
 unfolding plain.unsubscribe plain.unsubscribe_from
 unsubscribe-parts parts number sub d e grains lengths found forgets =
-    rw (record-found parts (name.Explicit number) sub d e lengths found) (by (get_or parts.subs.states sub e).live)
+    rw (record-found parts (name.Explicit number) sub d e lengths found) (ap answer closes)
   where
     s : SubName
     s = name.Explicit number
@@ -124,12 +95,5 @@ unsubscribe-parts parts number sub d e grains lengths found forgets =
         ∙ ap (λ (p : PlainPartition). record p { grains = grains_of parts.subs.registry.names grains }) (record-set parts s sub d e (closed old) (λ r. record r { is_open = false }) lengths found refl)
         ∙ closed-is parts s (set parts.subs.states sub (closed old)) grains
 
-    left : PlainPartition × Reply
-    left = (plain.unsubscribed (plain_of parts) s (record_at parts sub d e), reply.Unsubscribed (length old.handled))
-
-    right : PlainPartition × Reply
-    right = (plain_of (with_closed parts s (set parts.subs.states sub (closed old)) grains), reply.Unsubscribed (length old.handled))
-
-    by : (is_open : Bool) → (if not is_open then (plain_of parts, reply.Closed) else left) ≡ (if not is_open then (plain_of parts, reply.Closed) else right)
-    by false = refl
-    by true = ap {B = PlainPartition × Reply} (λ p. (p, reply.Unsubscribed (length old.handled))) closes
+    answer : PlainPartition → PlainPartition × Reply
+    answer left = if not old.live then (plain_of parts, reply.Closed) else (left, reply.Unsubscribed (length old.handled))

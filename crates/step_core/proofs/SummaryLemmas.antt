@@ -1,24 +1,12 @@
 -- Summaries in the order of their names, by rank.
-use Rattle.std.proofs.Common.{◌≡◌, ◌∙◌, ◌<◌, ℕ, suc, Bool, true, false, List, [], ◌∷◌, length, get_or, map, Some, slice_get, if◌then◌else◌, refl, sym, ap, subst, arith}
-use Rattle.std.proofs.lemmas.List.{get_or-map, length-map}
+use Rattle.step_core.proofs.Prelude.{SubState, Registration, ◌≡◌, ◌∙◌, ◌<◌, ℕ, suc, Bool, true, List, [], ◌∷◌, length, get_or, map, Some, slice_get, refl, sym, ap, subst, arith, cond_both, get_or-map, length-map, slice_get-get_or, slice_get-map, IsStrictWeakOrder, option_map, slice_index, sub_lt, SubName, in_order, insert_in_order, name_of, no_entry, no_state}
 use Rattle.std.proofs.lemmas.List.MinMax.{ranks_by}
-use Rattle.std.proofs.lemmas.Option.{slice_get-get_or, slice_get-map}
-use Rattle.std.specs.Cmp.{IsStrictWeakOrder}
-use Rattle.std.specs.Option.{option_map}
 use Rattle.std.specs.Ordering.{is_lt}
-use Rattle.std.specs.Prelude.{slice_index}
-use Rattle.stream_ident.specs.SubName.{sub_lt}
-use Rattle.stream_ident.specs.declared.ident.SubName.{SubName}
 use Rattle.stream_ident.specs.contracts.ident.SubNameOrd.TheImpl as name_order
 use Rattle.stream_ident.specs.contracts.ident.SubNameOrd.TheImpl.Laws.{total-law}
 use Rattle.stream_ident.proofs.NameOrders.{sub_less_at}
-use Rattle.stream_model.specs.Draining.{in_order, insert_in_order}
-use Rattle.consumer_grain.specs.declared.sub_state.SubState.{SubState}
-use Rattle.pubsub_registry.specs.declared.registration.Registration.{Registration}
 use Rattle.ranked_index.specs.Ranked.{AreRanked}
 use Rattle.ranked_index.specs.Ranking.{IsInverse}
-use Rattle.subscription_table.specs.Standing.{name_of}
-use Rattle.subscription_table.specs.Table.{no_entry, no_state}
 use Rattle.step_core.specs.declared.reading.SubSummary.{SubSummary}
 use Rattle.step_core.specs.Reads.{is_named_before, summary_of}
 use Rattle.step_core.specs.View.{sub_of, subs_of}
@@ -39,11 +27,8 @@ named_order =
 
 length-insert : (x : SubSummary) (xs : List SubSummary) → length (insert_in_order is_named_before x xs) ≡ suc (length xs)
 length-insert x [] = refl
-length-insert x (y ∷ ys) = by (is_named_before y x) (length-insert x ys)
-  where
-    by : (b : Bool) → length (insert_in_order is_named_before x ys) ≡ suc (length ys) → length (if b then y ∷ insert_in_order is_named_before x ys else x ∷ y ∷ ys) ≡ suc (suc (length ys))
-    by true rest = ap suc rest
-    by false rest = refl
+length-insert x (y ∷ ys) =
+    cond_both (is_named_before y x) (y ∷ insert_in_order is_named_before x ys) (x ∷ y ∷ ys) (λ (zs : List SubSummary). length zs ≡ suc (suc (length ys))) (λ _. ap suc (length-insert x ys)) (λ _. refl)
 
 length-in_order : (xs : List SubSummary) → length (in_order is_named_before xs) ≡ length xs
 length-in_order [] = refl

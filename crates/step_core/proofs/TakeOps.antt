@@ -1,32 +1,14 @@
 -- An agent takes events, done by the parts.
-use Rattle.std.proofs.Common.{◌≡◌, ◌∙◌, ap, sym, subst, refl, ℕ, zero, suc, ◌+◌, ◌-◌, ◌*◌, ◌<◌, ◌≤◌, min, Bool, true, false, List, [], ◌∷◌, ◌++◌, length, fold, map, take, drop, nat_lt, arith}
-use Rattle.std.specs.Prelude.{if◌then◌else◌, Result, OnErr}
-use Rattle.std.proofs.lemmas.List.{drop-drop, drop-map, drop-take, length-append, length-drop, length-map, length-take, map-append}
-use Rattle.std.specs.List.{flat_map}
-use Rattle.std.proofs.Math.Seq.{take-nil}
-use Rattle.stream_ident.specs.declared.event.Event.{Event}
-use Rattle.stream_ident.specs.declared.ident.SubName.{SubName}
-use Rattle.stream_ident.specs.declared.rule.Rule.{Rule}
+use Rattle.step_core.proofs.Prelude.{registered, Registration, high, bare, ◌≡◌, ◌∙◌, ap, sym, subst, refl, ℕ, zero, suc, ◌+◌, ◌-◌, ◌*◌, ◌<◌, ◌≤◌, min, Bool, true, false, List, [], ◌∷◌, ◌++◌, length, fold, map, take, drop, nat_lt, arith, take-add, drop-drop, drop-map, drop-take, length-append, length-drop, length-map, length-take, map-append, flat_map, if◌then◌else◌, Result, OnErr, Event, SubName, BLOCK_EVENTS, Rule, on-error, token_at, Reply, takes_memory, PlainPartition, Subscription, PlainTable, implied_by, new_states}
 use Rattle.stream_ident.specs.Implying.{added}
 use Rattle.stream_ident.specs.Implying as making
-use Rattle.queue_mapper.specs.Place.{bare}
-use Rattle.stream_ident.specs.declared.limits.TheConstants.{BLOCK_EVENTS}
-use Rattle.stream_model.specs.declared.plain.PlainPartition.{PlainPartition}
-use Rattle.stream_model.specs.declared.plain.Subscription.{Subscription}
-use Rattle.stream_model.specs.Replies.{Reply}
 use Rattle.stream_model.specs.declared.reply.Reply.TheVariants as reply
-use Rattle.stream_model.specs.Positions.{token_at}
 use Rattle.stream_model.specs.Pulling as plain
-use Rattle.stream_model.specs.Step.{takes_memory}
-use Rattle.pubsub_registry.specs.declared.registration.Registration.{Registration}
 use Rattle.pubsub_registry.specs.declared.told.Implied.{Implied}
 use Rattle.pubsub_registry.specs.declared.told.Implied.TheVariants as implied_told
 use Rattle.pubsub_registry.specs.Implying as implying
-use Rattle.pubsub_registry.specs.Registry.{registered}
-use Rattle.queue_cache.specs.Cache.{high}
-use Rattle.subscription_table.specs.Table.{PlainTable, implied_by, new_states}
+use Rattle.partition_queue.specs.Queue.{between}
 use Rattle.subscription_table.specs.Table as table
-use Rattle.stream_model.proofs.Answering.{on-error}
 use Rattle.step_core.specs.Assembly.{HasEvents, IsAssembled}
 use Rattle.step_core.specs.declared.parts.Parts.{Parts}
 use Rattle.step_core.specs.PlainOf.{plain_of}
@@ -68,37 +50,43 @@ bare-imply t events position =
     ap (λ names. implied_by t position (if nat_lt t.registry.most_names (length names) then (t.registry, implied_told.TooMany) else (record t.registry { names = names }, implied_told.Implied)))
     (bare-made t events)
 
-pub makes-is : (old new : PlainTable) (events seen : List Event) (position at : ℕ) (told : Implied) → seen ≡ map bare events → at ≡ position → ◌≡◌ {A = PlainTable × Implied} (new, told) (table.imply old seen at) → MakesIs old new events position told
+imply-ahead : (parts : Parts) (count top : ℕ) (seen : List Event) → top ≡ high parts.agent.cache → seen ≡ map bare (between parts.queue top (top + count))
+    → table.imply parts.subs seen top ≡ table.imply parts.subs (ahead parts count) (high parts.agent.cache)
+imply-ahead parts count top seen is_top is_seen =
+    ap {B = PlainTable × Implied} (λ es. table.imply parts.subs es top) (is_seen ∙ ap (λ from. map bare (between parts.queue from (from + count))) is_top)
+    ∙ bare-imply parts.subs (ahead parts count) top
+    ∙ ap {B = PlainTable × Implied} (λ n. table.imply parts.subs (ahead parts count) n) is_top
+
+pub makes-is : (parts : Parts) (new : PlainTable) (count top : ℕ) (seen : List Event) (given told : Implied) → top ≡ high parts.agent.cache → seen ≡ map bare (between parts.queue top (top + count)) → given ≡ told
+    → ◌≡◌ {A = PlainTable × Implied} (new, given) (table.imply parts.subs seen top) → MakesIs parts.subs new (ahead parts count) (high parts.agent.cache) told
 unfolding made-by
-makes-is old new events seen position at told is_seen is_at is =
-    subst (λ (r : PlainTable × Implied). MakesIs old r.0 events position r.1)
-    (sym (is ∙ ap {B = PlainTable × Implied} (λ es. table.imply old es at) is_seen ∙ bare-imply old events at ∙ ap {B = PlainTable × Implied} (λ n. table.imply old events n) is_at))
-    (by (are_too_many old events) refl)
+makes-is parts new count top seen given told is_top is_seen is_told is =
+    subst (MakesIs parts.subs new (ahead parts count) (high parts.agent.cache)) is_told
+    (subst (λ (r : PlainTable × Implied). MakesIs parts.subs r.0 (ahead parts count) (high parts.agent.cache) r.1) (sym (is ∙ imply-ahead parts count top seen is_top is_seen))
+    (by (are_too_many parts.subs (ahead parts count)) refl))
   where
-    by : (many : Bool) → are_too_many old events ≡ many → MakesIs old (made-by old events position many).0 events position (made-by old events position many).1
+    made : Bool → PlainTable × Implied
+    made many = made-by parts.subs (ahead parts count) (high parts.agent.cache) many
+
+    by : (many : Bool) → are_too_many parts.subs (ahead parts count) ≡ many → MakesIs parts.subs (made many).0 (ahead parts count) (high parts.agent.cache) (made many).1
     by true many = (refl, many)
     by false few = (refl, few)
 
 -- there aren't too many, and some are new, where there are more names than before
-pub makes-more : (old : PlainTable) (events seen : List Event) (at : ℕ) → seen ≡ map bare events → length old.registry.names < length (table.imply old seen at).0.registry.names
-    → (are_too_many old events ≡ false) × (length old.registry.names < length (names_made old events))
+pub makes-more : (parts : Parts) (count top : ℕ) (seen : List Event) → top ≡ high parts.agent.cache → seen ≡ map bare (between parts.queue top (top + count)) → length parts.subs.registry.names < length (table.imply parts.subs seen top).0.registry.names
+    → (are_too_many parts.subs (ahead parts count) ≡ false) × (length parts.subs.registry.names < length (names_made parts.subs (ahead parts count)))
 unfolding made-by
-makes-more old events seen at is_seen more =
-    by (are_too_many old events) refl (subst (λ (r : PlainTable × Implied). length old.registry.names < length r.0.registry.names) (ap {B = PlainTable × Implied} (λ es. table.imply old es at) is_seen ∙ bare-imply old events at) more)
+makes-more parts count top seen is_top is_seen more =
+    by (are_too_many parts.subs (ahead parts count)) refl (subst (λ (r : PlainTable × Implied). length parts.subs.registry.names < length r.0.registry.names) (imply-ahead parts count top seen is_top is_seen) more)
   where
-    by : (many : Bool) → are_too_many old events ≡ many → length old.registry.names < length (made-by old events at (are_too_many old events)).0.registry.names
-        → (are_too_many old events ≡ false) × (length old.registry.names < length (names_made old events))
-    by true many more =
-        let none : length old.registry.names < length old.registry.names = subst (λ b. length old.registry.names < length (made-by old events at b).0.registry.names) many more in
-        absurd (omega (arith, none))
-    by false few more = (few, subst (λ b. length old.registry.names < length (made-by old events at b).0.registry.names) few more)
+    Grows : Bool → Type 0
+    Grows many = length parts.subs.registry.names < length (made-by parts.subs (ahead parts count) (high parts.agent.cache) many).0.registry.names
+
+    by : (many : Bool) → are_too_many parts.subs (ahead parts count) ≡ many → Grows (are_too_many parts.subs (ahead parts count)) → (are_too_many parts.subs (ahead parts count) ≡ false) × (length parts.subs.registry.names < length (names_made parts.subs (ahead parts count)))
+    by true many more = let none : length parts.subs.registry.names < length parts.subs.registry.names = subst Grows many more in absurd (omega (arith, none))
+    by false few more = (few, subst Grows few more)
 
 -- ---- the cache goes on along the log
-
-take-more : {A : Type 0} (m n : ℕ) (xs : List A) → take m xs ++ take n (drop m xs) ≡ take (m + n) xs
-take-more zero n xs = ap (λ k. take k xs) (omega arith)
-take-more (suc m) n [] = take-nil n ∙ sym (take-nil (suc m + n))
-take-more (suc m) n (x ∷ xs) = ap (λ rest. x ∷ rest) (take-more m n xs) ∙ ap (λ k. take k (x ∷ xs)) {x = suc (m + n)} (omega arith)
 
 -- a front that loses its first k elements and goes on with c more
 splice : {A : Type 0} (k n c : ℕ) (xs : List A) → k ≤ n → drop k (take n xs) ++ take c (drop n xs) ≡ take ((n - k) + c) (drop k xs)
@@ -107,7 +95,7 @@ splice k n c xs le =
     ∙ ap (λ ys. ys ++ take c (drop n xs)) (drop-take k (n - k) xs)
     ∙ ap (λ m. take (n - k) (drop k xs) ++ take c (drop m xs)) {y = k + (n - k)} (omega (arith, le))
     ∙ ap (λ ys. take (n - k) (drop k xs) ++ take c ys) (sym (drop-drop (n - k) k xs))
-    ∙ take-more (n - k) c (drop k xs)
+    ∙ sym (take-add (n - k) c (drop k xs))
 
 -- what a plan to take promises of the parts
 abbrev pub CanTake : Parts → ℕ → ℕ → Type 0

@@ -1,11 +1,6 @@
 -- Records by number: look-ups and changes.
-use Rattle.std.proofs.Common.{◌≡◌, ℕ, zero, suc, ◌<◌, Bool, List, [], ◌∷◌, ◌++◌, length, get_or, map, set, refl, sym, ap, ◌∙◌, arith}
-use Rattle.stream_ident.specs.declared.ident.SubName.{SubName}
-use Rattle.stream_model.specs.declared.plain.Subscription.{Subscription}
+use Rattle.step_core.proofs.Prelude.{SubState, Registration, ◌≡◌, ℕ, zero, suc, ◌<◌, Bool, List, [], ◌∷◌, ◌++◌, length, get_or, map, set, refl, sym, ap, ◌∙◌, arith, first_at, each_value, SubName, Subscription}
 use Rattle.stream_model.specs.Places.{change_at}
-use Rattle.stream_ident.specs.Words.{first_at, each_value}
-use Rattle.consumer_grain.specs.declared.sub_state.SubState.{SubState}
-use Rattle.pubsub_registry.specs.declared.registration.Registration.{Registration}
 use Rattle.step_core.specs.View.{sub_of, subs_of}
 
 -- a name has the same place among the names and among the records

@@ -81,17 +81,13 @@ fn drain_all(partition: &mut Partition, alloc: Global) -> Result<(), Stop>
     ensures { Follows partition.old partition.new result (drain_all partition.old) }
 {
     let rounds = partition.queued().saturating_sub(partition.high());
-    for _ in 0..rounds {
+    for _ in 0..=rounds {
         drain_round(partition, alloc)?;
         if !pull_next(partition, alloc)? {
             return Ok(());
         }
     }
-    drain_round(partition, alloc)?;
-    if pull_next(partition, alloc)? {
-        return Err(Stop::Astray);
-    }
-    Ok(())
+    Err(Stop::Astray)
 }
 
 /// Pulls, and says whether events went into the cache.
@@ -117,6 +113,7 @@ fn is_pulled(told: Outcome) -> Result<bool, Stop>
 }
 
 /// A round: the mailboxes are emptied, and then each open subscription is served, in the order of names.
+#[inline(never)]
 fn drain_round(partition: &mut Partition, alloc: Global) -> Result<(), Stop>
     ensures { Follows partition.old partition.new result (drain_round partition.old) }
 {

@@ -1,4 +1,4 @@
-use Rattle.std.proofs.Common.{◌≡◌, ◌+◌, ◌++◌, drop, length}
+use Rattle.step_core.proofs.Prelude.{◌≡◌, ◌+◌, ◌++◌, drop, length}
 use Rattle.step_core.proofs.answer.row_of.Given as goal
 
 abbrev pub invariant-loop-event : goal.invariant-loop-event

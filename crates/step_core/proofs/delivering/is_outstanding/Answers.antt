@@ -1,10 +1,5 @@
-use Rattle.std.proofs.Common.{◌≡◌, ◌∙◌, ap, sym, false}
-use Rattle.stream_ident.specs.Name.{same_grain}
+use Rattle.step_core.proofs.Prelude.{holds, is_unacknowledged, ◌≡◌, ◌∙◌, ap, sym, false, same_grain, place_of-within, name_at}
 use Rattle.stream_model.specs.Positions as plain
-use Rattle.stream_model.proofs.Lookups.{place_of-within}
-use Rattle.consumer_grain.specs.Activations.{holds}
-use Rattle.consumer_grain.specs.Subscriptions.{is_unacknowledged}
-use Rattle.subscription_table.specs.Table.{name_at}
 use Rattle.step_core.specs.Records.{record_of}
 use Rattle.step_core.proofs.HandOps.{Stands, outstanding-held, outstanding-nowhere}
 use Rattle.step_core.proofs.delivering.is_outstanding.Goals as goal

@@ -1,6 +1,5 @@
-use Rattle.std.proofs.Common.{◌≡◌, Some, None, ap, sym, subst, ◌∙◌, true, false}
-use Rattle.stream_model.specs.declared.op.Op.TheVariants.{Ack}
-use Rattle.stream_model.specs.Draining.{Astray, acknowledge, after_ack}
+use Rattle.step_core.proofs.Prelude.{◌≡◌, Some, None, ap, sym, subst, ◌∙◌, true, false, Astray, after_ack, Ack}
+use Rattle.stream_model.specs.Draining.{acknowledge}
 use Rattle.stream_model.specs.Step.{step}
 use Rattle.step_core.specs.DrainPhases.{Ends}
 use Rattle.step_core.specs.Replied.{reply_of}

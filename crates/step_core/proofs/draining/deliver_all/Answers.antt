@@ -1,8 +1,6 @@
-use Rattle.std.proofs.Common.{◌≡◌, suc, ◌+◌, ◌-◌, true, false, Some, None, Ok, refl, subst, arith}
-use Rattle.std.proofs.lemmas.Result.{err_from_is_err_and}
-use Rattle.stream_model.specs.declared.op.Op.TheVariants.{Deliver}
-use Rattle.stream_model.specs.Draining.{Astray, take_turn, deliver_up_to}
-use Rattle.step_core.specs.DrainPhases.{Asks, Ends, deliver_told, halted}
+use Rattle.step_core.proofs.Prelude.{◌≡◌, suc, ◌+◌, ◌-◌, Some, None, refl, subst, arith, err_from_is_err_and, Astray, deliver_up_to}
+use Rattle.stream_model.specs.Draining.{take_turn}
+use Rattle.step_core.specs.DrainPhases.{Ends, halted}
 use Rattle.step_core.proofs.DrainLoops.{deliver-more, deliver-done, deliver-halted}
 use Rattle.step_core.proofs.DrainReplies.{more_delivers}
 use Rattle.step_core.proofs.DrainSteps.{ends-done, ends-halted, ends-then}
@@ -16,10 +14,8 @@ returns-in_err-deliver_next c =
 
 pub returns-then-not-branch : goal.returns-then-not-branch
 returns-then-not-branch c =
-    let p = c.loop.partition in
-    let mid = c.deliver_next.new.partition in
-    let asked : Asks p mid (Ok false) (Deliver p.generation c.args.sub.now) deliver_told = subst (λ b. Asks p mid (Ok b) (Deliver p.generation c.args.sub.now) deliver_told) c.if-not-branch.true c.in_ok-deliver_next.ensures in
-    c.loop.invariant mid (Some None) (deliver-done (c.args.most - c.loop.counter) c.args.sub.now c.args.grain.now p mid asked)
+    c.loop.invariant c.deliver_next.new.partition (Some None)
+    (deliver-done (c.args.most - c.loop.counter) c.args.sub.now c.args.grain.now c.loop.partition c.deliver_next.new.partition _ c.if-not-branch.true c.in_ok-deliver_next.ensures)
 
 pub returns-in_err-take_turn : goal.returns-in_err-take_turn
 returns-in_err-take_turn c =
@@ -31,10 +27,9 @@ returns-in_err-take_turn c =
     let g = c.args.grain.now in
     let n = c.args.most - (c.loop.counter + 1) in
     let next : suc n ≡ c.args.most - c.loop.counter = omega arith in
-    let asked : Asks p mid (Ok true) (Deliver p.generation s) deliver_told = subst (λ b. Asks p mid (Ok b) (Deliver p.generation s) deliver_told) c.if-not-branch.false c.in_ok-deliver_next.ensures in
     rw (e.1, e.2) (c.loop.invariant c.take_turn.new.partition (halted why)
     (subst (λ n. Ends p c.take_turn.new.partition (halted why) (deliver_up_to n s g p)) next
-    (deliver-more (suc n) s g p mid c.take_turn.new.partition (halted why) asked (ends-halted mid c.take_turn.new.partition why (take_turn g mid) (deliver_up_to n s g) c.in_err-take_turn.ensures))))
+    (deliver-more (suc n) s g p mid c.take_turn.new.partition (halted why) _ c.if-not-branch.false c.in_ok-deliver_next.ensures (ends-halted mid c.take_turn.new.partition why (take_turn g mid) (deliver_up_to n s g) c.in_err-take_turn.ensures))))
 
 pub loop-preserved : goal.loop-preserved
 loop-preserved c =
@@ -45,10 +40,9 @@ loop-preserved c =
     let g = c.args.grain.now in
     let n = c.args.most - (c.loop.counter + 1) in
     let next : suc n ≡ c.args.most - c.loop.counter = omega arith in
-    let asked : Asks p mid (Ok true) (Deliver p.generation s) deliver_told = subst (λ b. Asks p mid (Ok b) (Deliver p.generation s) deliver_told) c.if-not-branch.false c.in_ok-deliver_next.ensures in
     λ new end rest. c.loop.invariant new end
     (subst (λ n. Ends p new end (deliver_up_to n s g p)) next
-    (deliver-more (suc n) s g p mid new end asked (ends-then mid after new end (take_turn g mid) (deliver_up_to n s g) c.in_ok-take_turn.ensures rest)))
+    (deliver-more (suc n) s g p mid new end _ c.if-not-branch.false c.in_ok-deliver_next.ensures (ends-then mid after new end (take_turn g mid) (deliver_up_to n s g) c.in_ok-take_turn.ensures rest)))
 
 pub returns-in_err-deliver_next-2 : goal.returns-in_err-deliver_next-2
 returns-in_err-deliver_next-2 c =
@@ -63,14 +57,11 @@ returns-then-branch c =
     let s = c.args.sub.now in
     let g = c.args.grain.now in
     let none : 0 ≡ c.args.most - c.loop.counter = omega arith in
-    let asked : Asks p mid (Ok true) (Deliver p.generation s) deliver_told = subst (λ b. Asks p mid (Ok b) (Deliver p.generation s) deliver_told) c.if-branch.true c.in_ok-deliver_next-2.ensures in
     c.loop.invariant mid (Some (Some Astray))
     (subst (λ n. Ends p mid (Some (Some Astray)) (deliver_up_to n s g p)) none
-    (deliver-more 0 s g p mid mid (Some (Some Astray)) asked (ends-done mid (more_delivers 0 s g mid) (Some Astray) refl)))
+    (deliver-more 0 s g p mid mid (Some (Some Astray)) _ c.if-branch.true c.in_ok-deliver_next-2.ensures (ends-done mid (more_delivers 0 s g mid) (Some Astray) refl)))
 
 pub returns : goal.returns
 returns c =
-    let p = c.loop.partition in
-    let mid = c.deliver_next-2.new.partition in
-    let asked : Asks p mid (Ok false) (Deliver p.generation c.args.sub.now) deliver_told = subst (λ b. Asks p mid (Ok b) (Deliver p.generation c.args.sub.now) deliver_told) c.if-branch.false c.in_ok-deliver_next-2.ensures in
-    c.loop.invariant mid (Some None) (deliver-done (c.args.most - c.loop.counter) c.args.sub.now c.args.grain.now p mid asked)
+    c.loop.invariant c.deliver_next-2.new.partition (Some None)
+    (deliver-done (c.args.most - c.loop.counter) c.args.sub.now c.args.grain.now c.loop.partition c.deliver_next-2.new.partition _ c.if-branch.false c.in_ok-deliver_next-2.ensures)

@@ -1,5 +1,4 @@
-use Rattle.std.proofs.Common.{◌-◌}
-use Rattle.stream_model.specs.Draining.{deliver_up_to}
+use Rattle.step_core.proofs.Prelude.{◌-◌, deliver_up_to}
 use Rattle.step_core.proofs.DrainLoops.{Suffices}
 use Rattle.step_core.proofs.draining.deliver_all.Given as goal
 

@@ -1,6 +1,5 @@
-use Rattle.std.proofs.Common.{Some, None, sym, ◌∙◌, true, false}
-use Rattle.stream_model.specs.declared.op.Op.TheVariants.{Deliver}
-use Rattle.stream_model.specs.Draining.{Astray, after_last_deliver, deliver_once_more}
+use Rattle.step_core.proofs.Prelude.{Some, None, sym, ◌∙◌, true, false, Astray, after_last_deliver, Deliver}
+use Rattle.stream_model.specs.Draining.{deliver_once_more}
 use Rattle.step_core.specs.Replied.{reply_of}
 use Rattle.step_core.proofs.DrainReplies.{last-where}
 use Rattle.step_core.proofs.DrainSteps.{ends-last, ends-unchanged}

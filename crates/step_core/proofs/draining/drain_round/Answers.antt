@@ -1,4 +1,5 @@
-use Rattle.stream_model.specs.Draining.{empty_mailboxes, open_names, serve_each}
+use Rattle.step_core.proofs.Prelude.{empty_mailboxes, open_names}
+use Rattle.stream_model.specs.Draining.{serve_each}
 use Rattle.step_core.specs.DrainPhases.{meant}
 use Rattle.step_core.proofs.DrainSteps.{ends-then}
 use Rattle.step_core.proofs.draining.drain_round.Goals as goal

@@ -1,6 +1,4 @@
-use Rattle.std.proofs.Common.{◌≡◌, ◌∙◌, suc, ◌+◌, ◌-◌, Some, None, sym, subst, arith}
-use Rattle.std.proofs.lemmas.Result.{err_from_is_err_and}
-use Rattle.stream_model.specs.Draining.{Astray, least_waiting}
+use Rattle.step_core.proofs.Prelude.{◌≡◌, ◌∙◌, suc, ◌+◌, ◌-◌, Some, None, sym, subst, arith, err_from_is_err_and, Astray, least_waiting}
 use Rattle.step_core.specs.DrainPhases.{Ends, halted}
 use Rattle.step_core.proofs.DrainLoops.{turns-astray, turns-done, turns-halted, turns-more, turns_up_to}
 use Rattle.step_core.proofs.draining.empty_mailboxes.Goals as goal

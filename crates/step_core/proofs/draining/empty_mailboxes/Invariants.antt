@@ -1,5 +1,4 @@
-use Rattle.std.proofs.Common.{◌-◌}
-use Rattle.stream_model.specs.Draining.{empty_mailboxes}
+use Rattle.step_core.proofs.Prelude.{◌-◌, empty_mailboxes}
 use Rattle.step_core.proofs.DrainLoops.{Suffices, turns_up_to}
 use Rattle.step_core.proofs.draining.empty_mailboxes.Given as goal
 

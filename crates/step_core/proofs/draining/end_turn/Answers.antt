@@ -1,5 +1,4 @@
-use Rattle.stream_model.specs.declared.op.Op.TheVariants.{Commit}
-use Rattle.stream_model.specs.Draining.{after_commit}
+use Rattle.step_core.proofs.Prelude.{after_commit, Commit}
 use Rattle.step_core.proofs.DrainSteps.{ends-unchanged}
 use Rattle.step_core.proofs.draining.end_turn.Goals as goal
 

@@ -1,17 +1,9 @@
-use Rattle.std.proofs.Common.{◌≡◌, ◌∙◌, ◌<◌, Some, None, ap, sym, subst, length, get_or, arith}
-use Rattle.std.proofs.lemmas.Result.{err_from_is_err_and}
-use Rattle.std.specs.Option.{option_map}
-use Rattle.stream_ident.specs.declared.ident.SubName.{SubName}
-use Rattle.stream_ident.specs.declared.ident.SubName.TheVariants.{Explicit}
-use Rattle.stream_ident.specs.SubName.{sub_lt}
-use Rattle.stream_ident.specs.Words.{above}
-use Rattle.stream_model.specs.declared.plain.PlainPartition.{PlainPartition}
-use Rattle.stream_model.specs.Draining.{open_names, serve}
-use Rattle.stream_model.specs.Positions.{sub_at}
+use Rattle.step_core.proofs.Prelude.{◌≡◌, ◌∙◌, Some, None, ap, sym, subst, length, arith, err_from_is_err_and, option_map, sub_at, PlainPartition}
+use Rattle.stream_model.specs.Draining.{serve}
 use Rattle.step_core.specs.DrainPhases.{Ends, halted}
 use Rattle.step_core.specs.Serving.{name_of, next_due}
-use Rattle.step_core.proofs.CatchRuns.{run-past}
-use Rattle.step_core.proofs.DueNames.{fewer-left, goes-on, goes-on-done, goes-on-first, goes-on-halted, length-stays, name-stays, GoesOn}
+use Rattle.step_core.proofs.CatchRuns.{caught-from, served-from}
+use Rattle.step_core.proofs.DueNames.{goes-on-done, goes-on-first, goes-on-halted, length-stays}
 use Rattle.step_core.proofs.draining.serve_each.Goals as goal
 
 pub loop-number-init : goal.loop-number-init
@@ -39,57 +31,26 @@ returns-in_err-serve_number-in-None c =
 
 pub loop-number-smaller : goal.loop-number-smaller
 loop-number-smaller c =
-    let here = c.loop-number.partition in
-    let mid = c.serve_number.new.partition in
-    let number = c.in-Some.number in
-    let d = name_of here number in
-    let last = option_map (name_of here) c.loop-number.last in
-    let next : Some d ≡ next_due here last = sym (ap (option_map (name_of here)) c.in-Some.is) ∙ c.next_due.ensures.next in
-    let served : Ends here mid (Some None) (serve d here (sub_at here d)) =
-    subst (λ (p : PlainPartition). Ends p mid (Some None) (serve (name_of p number) p (sub_at p (name_of p number)))) c.in-None.ensures.told c.in_ok-serve_number-in-None.ensures in
-    subst (λ (s : SubName). length (above sub_lt (Some s) (open_names c.args.partition.now)) < length (above sub_lt last (open_names c.args.partition.now))) (sym (name-stays here mid number d served))
-    (fewer-left c.args.partition.now here last d c.next_due.ensures.reached c.loop-number.invariant.0 next)
+    (served-from c.args.partition.now c.loop-number.partition c.serve_number.new.partition c.loop-number.last c.next_due.result c.in-Some.number c.next_due.ensures.reached c.loop-number.invariant.0 c.in-Some.is c.next_due.ensures.next c.catch_up_from.new.self c.in-None.ensures.told c.in_ok-serve_number-in-None.ensures).fewer
 
 pub loop-number-preserved : goal.loop-number-preserved
 loop-number-preserved c =
     let here = c.loop-number.partition in
     let mid = c.serve_number.new.partition in
-    let number = c.in-Some.number in
-    let d = name_of here number in
-    let last = option_map (name_of here) c.loop-number.last in
-    let next : Some d ≡ next_due here last = sym (ap (option_map (name_of here)) c.in-Some.is) ∙ c.next_due.ensures.next in
+    let d = name_of here c.in-Some.number in
     let served : Ends here mid (Some None) (serve d here (sub_at here d)) =
-    subst (λ (p : PlainPartition). Ends p mid (Some None) (serve (name_of p number) p (sub_at p (name_of p number)))) c.in-None.ensures.told c.in_ok-serve_number-in-None.ensures in (
-      subst (λ (s : SubName). GoesOn c.args.partition.now mid (Some s)) (sym (name-stays here mid number d served))
-          (goes-on c.args.partition.now here mid last d c.next_due.ensures.reached c.loop-number.invariant.0 next served),
+    subst (λ (p : PlainPartition). Ends p mid (Some None) (serve (name_of p c.in-Some.number) p (sub_at p (name_of p c.in-Some.number)))) c.in-None.ensures.told c.in_ok-serve_number-in-None.ensures in (
+      (served-from c.args.partition.now c.loop-number.partition c.serve_number.new.partition c.loop-number.last c.next_due.result c.in-Some.number c.next_due.ensures.reached c.loop-number.invariant.0 c.in-Some.is c.next_due.ensures.next c.catch_up_from.new.self c.in-None.ensures.told c.in_ok-serve_number-in-None.ensures).goes,
       omega (arith, c.in-Some.ensures.within, length-stays here mid d served),
     )
 
 pub loop-number-smaller-in-Some-catch_up_from : goal.loop-number-smaller-in-Some-catch_up_from
 loop-number-smaller-in-Some-catch_up_from c =
-    let here = c.loop-number.partition in
-    let new = c.catch_up_from.new.self in
-    let d = name_of here c.in-Some.number in
-    let end = c.in-Some-catch_up_from.end in
-    let last = option_map (name_of here) c.loop-number.last in
-    let next : Some d ≡ next_due here last = sym (ap (option_map (name_of here)) c.in-Some.is) ∙ c.next_due.ensures.next in
-    let run = c.in-Some-catch_up_from.ensures.told in
-    let past = run-past c.args.partition.now here new last d run.0 (name_of here end) c.next_due.ensures.reached c.loop-number.invariant.0 next run.1 in
-    subst (λ (s : SubName). length (above sub_lt (Some s) (open_names c.args.partition.now)) < length (above sub_lt last (open_names c.args.partition.now))) (sym (ap (λ names. get_or names end (Explicit 0)) past.names)) past.fewer
+    (caught-from c.args.partition.now c.loop-number.partition c.catch_up_from.new.self c.loop-number.last c.next_due.result c.in-Some.number c.next_due.ensures.reached c.loop-number.invariant.0 c.in-Some.is c.next_due.ensures.next c.in-Some-catch_up_from.end c.in-Some-catch_up_from.ensures.told).fewer
 
 pub loop-number-preserved-in-Some-catch_up_from : goal.loop-number-preserved-in-Some-catch_up_from
 loop-number-preserved-in-Some-catch_up_from c =
-    let here = c.loop-number.partition in
-    let new = c.catch_up_from.new.self in
-    let d = name_of here c.in-Some.number in
-    let end = c.in-Some-catch_up_from.end in
-    let last = option_map (name_of here) c.loop-number.last in
-    let next : Some d ≡ next_due here last = sym (ap (option_map (name_of here)) c.in-Some.is) ∙ c.next_due.ensures.next in
-    let run = c.in-Some-catch_up_from.ensures.told in
-    let past = run-past c.args.partition.now here new last d run.0 (name_of here end) c.next_due.ensures.reached c.loop-number.invariant.0 next run.1 in (
-      subst (λ (s : SubName). GoesOn c.args.partition.now new (Some s)) (sym (ap (λ names. get_or names end (Explicit 0)) past.names)) past.goes,
-      c.in-Some-catch_up_from.ensures.within,
-    )
+    ((caught-from c.args.partition.now c.loop-number.partition c.catch_up_from.new.self c.loop-number.last c.next_due.result c.in-Some.number c.next_due.ensures.reached c.loop-number.invariant.0 c.in-Some.is c.next_due.ensures.next c.in-Some-catch_up_from.end c.in-Some-catch_up_from.ensures.told).goes, c.in-Some-catch_up_from.ensures.within)
 
 pub returns : goal.returns
 returns c =

@@ -1,10 +1,6 @@
-use Rattle.std.proofs.Common.{◌≡◌, ◌∙◌, ◌+◌, ◌-◌, Some, ap, subst, sym, arith}
-use Rattle.std.specs.Option.{option_map}
-use Rattle.stream_model.specs.declared.plain.PlainPartition.{PlainPartition}
-use Rattle.stream_model.specs.Positions.{sub_at}
+use Rattle.step_core.proofs.Prelude.{◌≡◌, ◌∙◌, ◌+◌, ◌-◌, Some, ap, subst, arith, option_map, sub_at, PlainPartition, Subscription}
 use Rattle.step_core.specs.DrainPhases.{Ends, meant}
 use Rattle.step_core.specs.Serving.{cursor_of, name_of, serve_up_to}
-use Rattle.stream_model.specs.declared.plain.Subscription.{Subscription}
 use Rattle.step_core.proofs.ServeOps.{Serves, serves-first, serves-next, serves-rest, serves-within}
 use Rattle.step_core.proofs.SettledOps.{serves-caught-up}
 use Rattle.step_core.proofs.draining.serve_number.Goals as goal

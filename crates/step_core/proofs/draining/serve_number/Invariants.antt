@@ -1,4 +1,4 @@
-use Rattle.std.proofs.Common.{◌-◌}
+use Rattle.step_core.proofs.Prelude.{◌-◌}
 use Rattle.step_core.proofs.ServeOps.{Serves}
 use Rattle.step_core.proofs.draining.serve_number.Given as goal
 

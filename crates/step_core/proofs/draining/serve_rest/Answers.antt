@@ -1,6 +1,5 @@
-use Rattle.stream_model.specs.Draining.{deliver_up_to}
+use Rattle.step_core.proofs.Prelude.{err_from_is_err_and, deliver_up_to}
 use Rattle.step_core.specs.DrainPhases.{after_deliveries, halted, meant}
-use Rattle.std.proofs.lemmas.Result.{err_from_is_err_and}
 use Rattle.step_core.proofs.DrainSteps.{ends-halted, ends-then}
 use Rattle.step_core.proofs.ServeOps.{rest-is}
 use Rattle.step_core.proofs.draining.serve_rest.Goals as goal

@@ -1,7 +1,5 @@
-use Rattle.std.proofs.Common.{sym, ◌∙◌}
-use Rattle.std.proofs.lemmas.Result.{err_from_is_err_and}
-use Rattle.stream_model.specs.Draining.{acknowledge, deliver_once_more, last_handled}
-use Rattle.stream_model.specs.Positions.{sub_at}
+use Rattle.step_core.proofs.Prelude.{sym, ◌∙◌, err_from_is_err_and, last_handled, sub_at}
+use Rattle.stream_model.specs.Draining.{acknowledge, deliver_once_more}
 use Rattle.step_core.specs.DrainPhases.{meant}
 use Rattle.step_core.proofs.DrainSteps.{ends-halted, ends-then}
 use Rattle.step_core.proofs.SettledOps.{settles-settled}

@@ -1,5 +1,5 @@
-use Rattle.stream_model.specs.declared.op.Op.TheVariants.{Begin}
-use Rattle.stream_model.specs.Draining.{after_begin, take_turn}
+use Rattle.step_core.proofs.Prelude.{after_begin, Begin}
+use Rattle.stream_model.specs.Draining.{take_turn}
 use Rattle.step_core.specs.DrainPhases.{meant}
 use Rattle.step_core.specs.Replied.{reply_with}
 use Rattle.step_core.proofs.DrainSteps.{ends-ask}

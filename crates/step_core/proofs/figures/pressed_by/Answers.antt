@@ -1,10 +1,7 @@
-use Rattle.std.proofs.Common.{◌∙◌, ap, sym, refl}
-use Rattle.std.specs.Prelude.{Result, Ok, unwrap_or}
+use Rattle.step_core.proofs.Prelude.{Plan, StaleAgent, ◌∙◌, ap, sym, refl, Result, unwrap_or, slowest_name}
+use Rattle.std.specs.Prelude.{Ok}
 use Rattle.stream_ident.specs.declared.ident.SubName.TheVariants as name
-use Rattle.stream_model.specs.Positions.{slowest_name}
-use Rattle.pulling_agent.specs.declared.agent.Plan.{Plan}
 use Rattle.pulling_agent.specs.declared.agent.Plan.TheVariants as plan
-use Rattle.pulling_agent.specs.declared.agent.StaleAgent.{StaleAgent}
 use Rattle.step_core.specs.PlainOf.{plain_of}
 use Rattle.step_core.proofs.FigureOps.{pressed-is}
 use Rattle.step_core.proofs.figures.pressed_by.Goals as goal

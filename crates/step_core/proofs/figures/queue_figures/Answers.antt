@@ -1,4 +1,4 @@
-use Rattle.std.proofs.Common.{◌≡◌, ◌∙◌, sym, refl, length}
+use Rattle.step_core.proofs.Prelude.{◌≡◌, ◌∙◌, sym, refl, length}
 use Rattle.step_core.specs.View.{subs_of}
 use Rattle.step_core.proofs.ViewLemmas.{records-length}
 use Rattle.step_core.proofs.figures.queue_figures.Goals as goal

@@ -1,7 +1,4 @@
-use Rattle.std.proofs.Common.{◌≡◌, ◌∙◌, ap, sym, refl, arith}
-use Rattle.consumer_grain.specs.declared.sub_state.SubState.{SubState}
-use Rattle.subscription_table.specs.Table.{registration_at}
-use Rattle.std.specs.Option.{option_map}
+use Rattle.step_core.proofs.Prelude.{SubState, ◌≡◌, ◌∙◌, ap, sym, refl, arith, option_map, registration_at}
 use Rattle.step_core.specs.Figures.{figures_at}
 use Rattle.step_core.specs.PlainOf.{plain_of}
 use Rattle.step_core.proofs.ReadLemmas.{found-none, found-sub}

@@ -1,4 +1,4 @@
-use Rattle.std.proofs.Common.{◌∙◌, arith}
+use Rattle.step_core.proofs.Prelude.{◌∙◌, arith}
 use Rattle.step_core.proofs.PendingOps.{waits-all}
 use Rattle.step_core.proofs.looking.all_waiting.Goals as goal
 

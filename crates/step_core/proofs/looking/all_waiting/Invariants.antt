@@ -1,5 +1,4 @@
-use Rattle.std.proofs.Common.{◌≡◌, ◌*◌, ◌≤◌}
-use Rattle.stream_ident.specs.declared.limits.TheConstants.{MAILBOX_PLACES}
+use Rattle.step_core.proofs.Prelude.{◌≡◌, ◌*◌, ◌≤◌, MAILBOX_PLACES}
 use Rattle.step_core.proofs.PendingOps.{waits_before}
 use Rattle.step_core.proofs.looking.all_waiting.Given as goal
 

@@ -1,14 +1,5 @@
-use Rattle.std.proofs.Common.{◌∙◌, Some, None, ap, sym, subst, ◌<◌, length, pred}
-use Rattle.std.specs.Prelude.{if◌then◌else◌}
-use Rattle.std.specs.List.{AllByRecursion}
-use Rattle.std.specs.Option.{option_copied}
-use Rattle.stream_ident.specs.Words.{past}
-use Rattle.consumer_grain.specs.Subscriptions.{is_unacknowledged}
-use Rattle.consumer_grain.specs.declared.sub_state.SubState.{SubState}
+use Rattle.step_core.proofs.Prelude.{is_unacknowledged, SubState, high, ◌∙◌, Some, None, ap, sym, subst, ◌<◌, length, pred, AllByRecursion, option_copied, if◌then◌else◌, past, due_after, leaves_of}
 use Rattle.partition_queue.specs.Queue.{token_at}
-use Rattle.queue_cache.specs.Cache.{high}
-use Rattle.subscription_table.specs.Leaves.{due_after}
-use Rattle.subscription_table.specs.LeavesOf.{leaves_of}
 use Rattle.step_core.proofs.LookOps.{due-none, due-some, handled-within}
 use Rattle.step_core.proofs.Shared.{distinct-of-unique}
 use Rattle.step_core.proofs.looking.due.Goals as goal

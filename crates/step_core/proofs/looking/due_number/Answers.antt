@@ -1,10 +1,5 @@
-use Rattle.std.proofs.Common.{◌≡◌, ◌∙◌, ℕ, None, Option, Some, ap, sym, subst, Bor}
-use Rattle.std.specs.Option.{option_copied}
-use Rattle.std.specs.Prelude.{IfNone, IfSome}
-use Rattle.stream_ident.specs.declared.ident.SubName.{SubName}
-use Rattle.subscription_table.specs.Leaves.{due_after}
-use Rattle.subscription_table.specs.LeavesOf.{leaves_of}
-use Rattle.subscription_table.specs.Table.{PlainTable, name_at, no_entry, number_of}
+use Rattle.step_core.proofs.Prelude.{◌≡◌, ◌∙◌, ℕ, None, Option, Some, ap, sym, subst, Bor, option_copied, IfNone, IfSome, SubName, due_after, leaves_of, PlainTable, name_at, no_entry}
+use Rattle.subscription_table.specs.Table.{number_of}
 use Rattle.step_core.proofs.NamesOps.{name-of-place}
 use Rattle.step_core.proofs.looking.due_number.Goals as goal
 

@@ -1,12 +1,4 @@
-use Rattle.std.proofs.Common.{◌≡◌, ◌∙◌, Some, ap, sym}
-use Rattle.std.specs.Option.{option_map}
-use Rattle.stream_ident.specs.SubName.{sub_lt}
-use Rattle.stream_ident.specs.Words.{is_above, keys_where}
-use Rattle.stream_model.specs.Looks.{is_due}
-use Rattle.queue_cache.specs.Cache.{high}
-use Rattle.subscription_table.specs.Leaves.{due_after}
-use Rattle.subscription_table.specs.LeavesOf.{leaves_of}
-use Rattle.subscription_table.specs.Table.{name_at}
+use Rattle.step_core.proofs.Prelude.{high, ◌≡◌, ◌∙◌, Some, ap, sym, option_map, sub_lt, is_above, keys_where, is_due, due_after, leaves_of, name_at}
 use Rattle.step_core.specs.PlainOf.{plain_of}
 use Rattle.step_core.proofs.DueNames.{due-by, due-none-past}
 use Rattle.step_core.proofs.LeafOps.{due-is}

@@ -1,7 +1,4 @@
-use Rattle.std.proofs.Common.{◌≡◌, ◌∙◌, sym, ap, refl, arith}
-use Rattle.subscription_table.specs.Table.{registration_at}
-use Rattle.std.specs.Prelude.{is_some}
-use Rattle.consumer_grain.specs.declared.sub_state.SubState.{SubState}
+use Rattle.step_core.proofs.Prelude.{SubState, ◌≡◌, ◌∙◌, sym, ap, refl, arith, is_some, registration_at}
 use Rattle.step_core.proofs.PendingOps.{next-told, open-cursor}
 use Rattle.step_core.proofs.Shared.{distinct-of-unique}
 use Rattle.step_core.proofs.looking.has_next.Goals as goal

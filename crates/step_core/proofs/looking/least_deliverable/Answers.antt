@@ -1,7 +1,4 @@
-use Rattle.std.proofs.Common.{◌≡◌, ◌∙◌, Some, ap, sym, refl}
-use Rattle.std.specs.Option.{option_map}
-use Rattle.stream_model.specs.Positions.{sub_at}
-use Rattle.subscription_table.specs.Table.{name_at, no_entry, no_state}
+use Rattle.step_core.proofs.Prelude.{◌≡◌, ◌∙◌, Some, ap, sym, refl, option_map, sub_at, name_at, no_entry, no_state}
 use Rattle.step_core.specs.PlainOf.{plain_of}
 use Rattle.step_core.specs.Records.{record_of}
 use Rattle.step_core.specs.Serving.{next_due}

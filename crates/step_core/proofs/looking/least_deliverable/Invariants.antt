@@ -1,10 +1,4 @@
-use Rattle.std.proofs.Common.{length, ◌<◌}
-use Rattle.std.specs.Option.{option_map}
-use Rattle.std.specs.Prelude.{IfSome}
-use Rattle.stream_ident.specs.SubName.{sub_lt}
-use Rattle.stream_ident.specs.Words.{above}
-use Rattle.stream_model.specs.Draining.{open_names}
-use Rattle.subscription_table.specs.Table.{name_at}
+use Rattle.step_core.proofs.Prelude.{length, ◌<◌, option_map, IfSome, sub_lt, above, open_names, name_at}
 use Rattle.step_core.specs.PlainOf.{plain_of}
 use Rattle.step_core.proofs.DueNames.{ArePast}
 use Rattle.step_core.proofs.looking.least_deliverable.Given as goal

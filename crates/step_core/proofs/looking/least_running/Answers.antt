@@ -1,4 +1,4 @@
-use Rattle.std.proofs.Common.{◌∙◌, sym}
+use Rattle.step_core.proofs.Prelude.{◌∙◌, sym}
 use Rattle.step_core.proofs.LookOps.{running-is}
 use Rattle.step_core.proofs.looking.least_running.Goals as goal
 

@@ -1,4 +1,4 @@
-use Rattle.std.proofs.Common.{◌∙◌, sym}
+use Rattle.step_core.proofs.Prelude.{◌∙◌, sym}
 use Rattle.step_core.proofs.LookOps.{waiting-is}
 use Rattle.step_core.proofs.looking.least_waiting.Goals as goal
 

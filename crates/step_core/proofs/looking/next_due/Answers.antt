@@ -1,11 +1,4 @@
-use Rattle.std.proofs.Common.{◌∙◌, None, ap, sym}
-use Rattle.std.specs.Option.{option_map}
-use Rattle.stream_ident.specs.Words.{keys_where}
-use Rattle.stream_model.specs.Looks.{is_due}
-use Rattle.queue_cache.specs.Cache.{high}
-use Rattle.subscription_table.specs.Leaves.{due_after}
-use Rattle.subscription_table.specs.LeavesOf.{leaves_of}
-use Rattle.subscription_table.specs.Table.{name_at}
+use Rattle.step_core.proofs.Prelude.{high, ◌∙◌, None, ap, sym, option_map, keys_where, is_due, due_after, leaves_of, name_at}
 use Rattle.step_core.specs.PlainOf.{plain_of}
 use Rattle.step_core.specs.Serving.{next_due}
 use Rattle.step_core.proofs.DueNames.{due-first}

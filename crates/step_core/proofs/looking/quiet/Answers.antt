@@ -1,4 +1,4 @@
-use Rattle.std.proofs.Common.{Some, None, sym, ◌∙◌}
+use Rattle.step_core.proofs.Prelude.{Some, None, sym, ◌∙◌}
 use Rattle.stream_model.proofs.Looking.{quiet-told}
 use Rattle.step_core.specs.PlainOf.{plain_of}
 use Rattle.step_core.proofs.looking.quiet.Goals as goal

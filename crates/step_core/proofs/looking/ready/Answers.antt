@@ -1,6 +1,4 @@
-use Rattle.std.proofs.Common.{◌∙◌, ap, sym}
-use Rattle.stream_model.specs.Looks.{ready_reply}
-use Rattle.grain_table.specs.Grains.{ready_after}
+use Rattle.step_core.proofs.Prelude.{ready_after, ◌∙◌, ap, sym, ready_reply}
 use Rattle.step_core.proofs.LookOps.{ready-is}
 use Rattle.step_core.proofs.looking.ready.Goals as goal
 

@@ -1,5 +1,4 @@
-use Rattle.std.proofs.Common.{length, arith}
-use Rattle.stream_ident.proofs.WordLemmas.{past_from-within}
+use Rattle.step_core.proofs.Prelude.{length, arith, past_from-within}
 use Rattle.step_core.proofs.looking.to_acknowledge.Goals as goal
 
 pub token_at-requires : goal.token_at-requires

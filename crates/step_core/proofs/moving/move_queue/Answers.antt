@@ -1,7 +1,4 @@
-use Rattle.std.proofs.Common.{◌≡◌, ◌∙◌, ap, arith, min, sym}
-use Rattle.stream_model.specs.Positions.{slowest}
-use Rattle.queue_cache.specs.Cache.{high}
-use Rattle.stream_model.proofs.Refusals.{move-spent}
+use Rattle.step_core.proofs.Prelude.{high, ◌≡◌, ◌∙◌, ap, arith, min, sym, move-spent, slowest}
 use Rattle.step_core.specs.PlainOf.{plain_of}
 use Rattle.step_core.proofs.Shared.{high-end}
 use Rattle.step_core.proofs.MovedOps.{moved-assembled, moved-performs}

@@ -1,4 +1,4 @@
-use Rattle.std.proofs.Common.{◌≡◌, ◌+◌, ◌++◌, drop, length}
+use Rattle.step_core.proofs.Prelude.{◌≡◌, ◌+◌, ◌++◌, drop, length}
 use Rattle.stream_ident.specs.Event.{events_at}
 use Rattle.step_core.proofs.outcome.events_of.Given as goal
 

@@ -1,4 +1,4 @@
-use Rattle.std.proofs.Common.{◌≡◌, ◌++◌, drop, length, vec_capacity}
+use Rattle.step_core.proofs.Prelude.{◌≡◌, ◌++◌, drop, length, vec_capacity}
 use Rattle.stream_ident.specs.Event.{events_at}
 use Rattle.step_core.proofs.outcome.put_events.Given as goal
 

@@ -1,9 +1,4 @@
-use Rattle.std.proofs.Common.{◌≡◌, ◌∙◌, ap, sym, subst}
-use Rattle.stream_model.specs.declared.plain.PlainPartition.{PlainPartition}
-use Rattle.stream_model.specs.Replies.{Reply}
-use Rattle.stream_model.proofs.Answering.{on-error}
-use Rattle.pubsub_registry.specs.declared.told.RuleAdded.{RuleAdded}
-use Rattle.subscription_table.specs.Table.{PlainTable}
+use Rattle.step_core.proofs.Prelude.{RuleAdded, ◌≡◌, ◌∙◌, ap, sym, subst, on-error, Reply, PlainPartition, PlainTable}
 use Rattle.step_core.specs.Assembly.{IsAssembled}
 use Rattle.step_core.specs.PlainOf.{plain_of}
 use Rattle.step_core.proofs.RuleOps.{rule-assembled, rule-memory, rule-performs}

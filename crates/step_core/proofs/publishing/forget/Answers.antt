@@ -1,7 +1,5 @@
-use Rattle.std.proofs.Common.{◌∙◌, sym}
-use Rattle.stream_ident.specs.Name.{same_grain}
+use Rattle.step_core.proofs.Prelude.{forgotten, ◌∙◌, sym, same_grain}
 use Rattle.stream_model.proofs.ChangedValues.{place_of-changed, place_of-unchanged}
-use Rattle.consumer_grain.specs.Activations.{forgotten}
 use Rattle.step_core.proofs.publishing.forget.Goals as goal
 
 pub returns-in-Some : goal.returns-in-Some

@@ -1,9 +1,4 @@
-use Rattle.std.proofs.Common.{◌≡◌, ◌∙◌, ap, sym, subst}
-use Rattle.stream_model.specs.declared.plain.PlainPartition.{PlainPartition}
-use Rattle.stream_model.specs.Replies.{Reply}
-use Rattle.stream_model.proofs.Answering.{on-error}
-use Rattle.partition_queue.specs.declared.appended.Appended.{Appended}
-use Rattle.partition_queue.specs.Queue.{PlainQueue}
+use Rattle.step_core.proofs.Prelude.{PlainQueue, Appended, ◌≡◌, ◌∙◌, ap, sym, subst, on-error, Reply, PlainPartition}
 use Rattle.step_core.specs.Assembly.{IsAssembled}
 use Rattle.step_core.specs.PlainOf.{plain_of}
 use Rattle.step_core.proofs.Shared.{high-end}

@@ -1,4 +1,4 @@
-use Rattle.std.proofs.Common.{map}
+use Rattle.step_core.proofs.Prelude.{map}
 use Rattle.step_core.proofs.OutcomeLemmas.{fails}
 use Rattle.step_core.proofs.PublishOps.{append-memory, appends, appends-assembled}
 use Rattle.step_core.proofs.Shared.{high-end}

@@ -1,4 +1,4 @@
-use Rattle.stream_model.proofs.Answering.{memory-along, performs-along}
+use Rattle.step_core.proofs.Prelude.{memory-along, performs-along}
 use Rattle.step_core.specs.PlainOf.{plain_of}
 use Rattle.step_core.specs.Replied.{replied}
 use Rattle.step_core.proofs.StartOps.{starts-at, starts-below, starts-latest}

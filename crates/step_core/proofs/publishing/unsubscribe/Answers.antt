@@ -1,12 +1,6 @@
-use Rattle.std.proofs.Common.{◌∙◌, List, ap, length, ℕ, subst, sym}
-use Rattle.stream_model.proofs.Refusals.{unsubscribe-unknown}
+use Rattle.step_core.proofs.Prelude.{PlainActivation, SubState, ◌∙◌, List, ap, length, ℕ, subst, sym, GrainId, unsubscribe-unknown, Reply, PlainPartition}
 use Rattle.step_core.proofs.RecordOps.{no-record}
-use Rattle.stream_ident.specs.declared.ident.GrainId.{GrainId}
-use Rattle.stream_model.specs.declared.plain.PlainPartition.{PlainPartition}
-use Rattle.stream_model.specs.Replies.{Reply}
 use Rattle.stream_model.specs.declared.reply.Reply.TheVariants as reply
-use Rattle.consumer_grain.specs.Activations.{PlainActivation}
-use Rattle.consumer_grain.specs.declared.sub_state.SubState.{SubState}
 use Rattle.pubsub_registry.specs.declared.told.Closing.TheVariants as close_told
 use Rattle.step_core.specs.Assembly.{IsAssembled}
 use Rattle.step_core.specs.PlainOf.{plain_of}
@@ -23,7 +17,7 @@ returns-in-Done-clause-assembled c =
     let closed = closed-assembled parts c.in-Some.number c.args.sub.now c.requires.records c.in-Some.ensures.number c.close.new.self close_told.Done c.requires.assembled c.in-Done.ensures in
     subst (λ (grains : List (GrainId × PlainActivation)). IsAssembled (record parts { subs = c.close.new.self; grains = grains })) (sym c.forget.ensures)
     (forgotten-assembled (record parts { subs = c.close.new.self }) c.grain.result.now c.in-Some.number closed
-    (closed-after parts c.in-Some.number c.args.sub.now c.requires.records c.in-Some.ensures.number c.close.new.self c.in-Done.ensures))
+    (closed-after parts c.in-Some.number c.args.sub.now c.requires.records c.in-Some.ensures.number c.close.new.self c.requires.assembled c.in-Done.ensures))
 
 pub returns-in-Done-clause-performs : goal.returns-in-Done-clause-performs
 returns-in-Done-clause-performs c =

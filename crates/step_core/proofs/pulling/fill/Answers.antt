@@ -1,7 +1,6 @@
-use Rattle.std.proofs.Common.{◌≡◌, ◌∙◌, ap, ℕ, Bool, ◌==◌, eq-eqb}
-use Rattle.std.specs.Prelude.{if◌then◌else◌, Result, Ok, Err}
-use Rattle.pulling_agent.specs.Agent.{PlainAgent, if_current, take_next}
-use Rattle.pulling_agent.specs.declared.agent.StaleAgent.{StaleAgent}
+use Rattle.step_core.proofs.Prelude.{PlainAgent, if_current, take_next, StaleAgent, ◌≡◌, ◌∙◌, ap, ℕ, Bool, if◌then◌else◌, Result, Err}
+use Rattle.std.proofs.Common.{eq-eqb}
+use Rattle.std.specs.Prelude.{Ok}
 use Rattle.step_core.proofs.pulling.fill.Goals as goal
 
 abbrev Pulled : Type 0

@@ -1,17 +1,10 @@
-use Rattle.std.proofs.Common.{◌≡◌, ◌∙◌, ◌<◌, ap, subst, sym, true, length}
-use Rattle.std.specs.Prelude.{OnErr, Result, Ok}
-use Rattle.std.proofs.lemmas.Bool.{eqb-true}
-use Rattle.stream_ident.specs.declared.ident.SubName.{SubName}
+use Rattle.step_core.proofs.Prelude.{plan_of, Plan, StaleAgent, ◌≡◌, ◌∙◌, ◌<◌, ap, subst, sym, true, length, eqb-true, OnErr, Result, Performs, SubName, takes_memory}
+use Rattle.std.specs.Prelude.{Ok}
 use Rattle.stream_model.specs.declared.reply.Reply.TheVariants as reply
-use Rattle.stream_model.specs.Step.{takes_memory}
-use Rattle.stream_ident.specs.Words.{Performs}
-use Rattle.pulling_agent.specs.Agent.{plan_of}
-use Rattle.pulling_agent.specs.declared.agent.Plan.{Plan}
 use Rattle.pulling_agent.specs.declared.agent.Plan.TheVariants as plan
-use Rattle.pulling_agent.specs.declared.agent.StaleAgent.{StaleAgent}
 use Rattle.step_core.specs.PlainOf.{plain_of}
 use Rattle.step_core.specs.Replied.{replied}
-use Rattle.step_core.proofs.CheckOps.{answered-current}
+use Rattle.step_core.proofs.CheckOps.{answered-as}
 use Rattle.step_core.proofs.HandOps.{Answer}
 use Rattle.step_core.proofs.PlanOps.{planned-is, pull-replaced}
 use Rattle.step_core.proofs.pulling.pull.Goals as goal
@@ -38,7 +31,7 @@ returns-in-Ok-Held-clause-performs c =
 pub take-requires-clause-current : goal.take-requires-clause-current
 take-requires-clause-current c =
     let parts = c.args.parts.now in
-    let answer = answered-current parts.agent c.args.generation (plan_of parts.agent c.args.max c.len-len.result c.least_resume-least.result) (plan.Take c.in-Ok-Take.drops c.in-Ok-Take.count) (planned_as c.in-Ok-Take.field-0-is ∙ c.in-Ok-Take.ensures.plan) in
+    let answer = answered-as parts.agent c.args.generation (plan_of parts.agent c.args.max c.len-len.result c.least_resume-least.result) (Ok (plan.Take c.in-Ok-Take.drops c.in-Ok-Take.count)) (planned_as c.in-Ok-Take.field-0-is ∙ c.in-Ok-Take.ensures.plan) in
     eqb-true c.args.generation parts.agent.generation answer.own
 
 pub returns-in-Ok-Take-clause-performs : goal.returns-in-Ok-Take-clause-performs

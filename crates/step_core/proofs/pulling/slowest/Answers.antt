@@ -1,4 +1,5 @@
-use Rattle.std.proofs.Common.{◌∙◌, ap, sym, unwrap_or}
+use Rattle.step_core.proofs.Prelude.{◌∙◌, ap, sym}
+use Rattle.std.proofs.Common.{unwrap_or}
 use Rattle.stream_ident.specs.declared.ident.SubName.TheVariants as name
 use Rattle.step_core.proofs.PlanOps.{slowest-name-is}
 use Rattle.step_core.proofs.pulling.slowest.Goals as goal

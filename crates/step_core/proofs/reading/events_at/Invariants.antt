@@ -1,5 +1,4 @@
-use Rattle.std.proofs.Common.{◌≡◌, take}
-use Rattle.stream_model.specs.Positions.{events_at}
+use Rattle.step_core.proofs.Prelude.{◌≡◌, take, events_at}
 use Rattle.step_core.proofs.reading.events_at.Given as goal
 
 abbrev pub invariant-loop-position : goal.invariant-loop-position

@@ -1,6 +1,6 @@
-use Rattle.std.proofs.Common.{◌≡◌, ◌<◌, ℕ, length, subst, ap, sym, ◌∙◌, IfOk, All}
+use Rattle.step_core.proofs.Prelude.{◌≡◌, ◌<◌, ℕ, length, subst, ap, sym, ◌∙◌, events_at}
+use Rattle.std.proofs.Common.{IfOk, All}
 use Rattle.std.proofs.lemmas.List.Elements.{All-from_recursion}
-use Rattle.stream_model.specs.Positions.{events_at}
 use Rattle.step_core.specs.PlainOf.{plain_of}
 use Rattle.step_core.specs.Reads.{handled_by, handled_of}
 use Rattle.step_core.proofs.ReadLemmas.{found-none, found-sub, handled-within}

@@ -1,5 +1,4 @@
-use Rattle.std.proofs.Common.{◌∙◌, ap, sym, subst, ◌<◌, length}
-use Rattle.std.specs.List.{AllByRecursion}
+use Rattle.step_core.proofs.Prelude.{◌∙◌, ap, sym, subst, ◌<◌, length, AllByRecursion}
 use Rattle.step_core.specs.Reads.{positions_by}
 use Rattle.step_core.proofs.ReadLemmas.{found-none, found-sub, handled-within}
 use Rattle.step_core.proofs.reading.handled_positions.Goals as goal

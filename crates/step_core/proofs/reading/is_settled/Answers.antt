@@ -1,4 +1,4 @@
-use Rattle.std.proofs.Common.{◌∙◌, sym, ap}
+use Rattle.step_core.proofs.Prelude.{◌∙◌, sym, ap}
 use Rattle.step_core.specs.PlainOf.{plain_of}
 use Rattle.step_core.specs.Serving.{is_settled_in}
 use Rattle.step_core.proofs.ReadLemmas.{found-none, found-sub}

@@ -1,12 +1,5 @@
-use Rattle.std.proofs.Common.{◌≡◌, ap, sym, ◌∙◌, ◌-◌, length, Some, Option, [], arith}
-use Rattle.std.proofs.lemmas.Bool.{false≢true}
+use Rattle.step_core.proofs.Prelude.{◌≡◌, ap, sym, ◌∙◌, ◌-◌, length, Some, Option, [], arith, false≢true, past_from-within, past, Token, last_handled, token_at, no_entry, no_state}
 use Rattle.std.specs.Prelude.{◌==◌}
-use Rattle.stream_ident.specs.declared.token.Token.{Token}
-use Rattle.stream_ident.specs.Words.{past}
-use Rattle.stream_model.specs.Draining.{last_handled}
-use Rattle.stream_model.specs.Positions.{token_at}
-use Rattle.subscription_table.specs.Table.{no_entry, no_state}
-use Rattle.stream_ident.proofs.WordLemmas.{past_from-within}
 use Rattle.step_core.specs.PlainOf.{plain_of}
 use Rattle.step_core.proofs.ReadLemmas.{found-none, found-sub, handled-within, last-none, last-some, nil-of-empty}
 use Rattle.step_core.proofs.RecordOps.{record_at}

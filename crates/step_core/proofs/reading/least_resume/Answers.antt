@@ -1,8 +1,4 @@
-use Rattle.std.proofs.Common.{◌≡◌, ◌∙◌, ap, sym}
-use Rattle.std.specs.Prelude.{unwrap_or}
-use Rattle.queue_cache.specs.Cache.{high}
-use Rattle.subscription_table.specs.Leaves.{least_resume}
-use Rattle.subscription_table.specs.LeavesOf.{leaves_of}
+use Rattle.step_core.proofs.Prelude.{high, ◌≡◌, ◌∙◌, ap, sym, unwrap_or, least_resume, leaves_of}
 use Rattle.step_core.proofs.LeafOps.{slowest-is}
 use Rattle.step_core.proofs.reading.least_resume.Goals as goal
 

@@ -1,8 +1,4 @@
-use Rattle.std.proofs.Common.{◌≡◌, ◌∙◌, ◌++◌, ◌∷◌, ◌<◌, ◌≤◌, [], List, length, take, ap, sym, arith}
-use Rattle.std.specs.Prelude.{slice_index}
-use Rattle.std.proofs.lemmas.List.{take_all, take_more}
-use Rattle.std.proofs.lemmas.Option.{get_or_from_slice_get}
-use Rattle.stream_ident.specs.declared.ident.SubName.{SubName}
+use Rattle.step_core.proofs.Prelude.{◌≡◌, ◌∙◌, ◌++◌, ◌∷◌, ◌<◌, ◌≤◌, [], List, length, take, ap, sym, arith, take_all, take_more, get_or_from_slice_get, slice_index, SubName}
 use Rattle.step_core.specs.PlainOf.{plain_of}
 use Rattle.step_core.specs.Reads.{summaries_in_order, summary_of}
 use Rattle.step_core.specs.Records.{record_of}

@@ -1,4 +1,4 @@
-use Rattle.std.proofs.Common.{◌≡◌, take}
+use Rattle.step_core.proofs.Prelude.{◌≡◌, take}
 use Rattle.step_core.specs.PlainOf.{plain_of}
 use Rattle.step_core.specs.Reads.{summaries_in_order}
 use Rattle.step_core.proofs.reading.summaries.Given as goal

@@ -1,6 +1,4 @@
-use Rattle.std.proofs.Common.{◌∙◌, Some, sym, ap, arith}
-use Rattle.std.specs.Prelude.{slice_index}
-use Rattle.stream_ident.specs.declared.ident.SubName.{SubName}
+use Rattle.step_core.proofs.Prelude.{◌∙◌, Some, sym, ap, arith, slice_index, SubName}
 use Rattle.step_core.specs.Reads.{summary_of}
 use Rattle.step_core.specs.Records.{record_of}
 use Rattle.step_core.proofs.SummaryLemmas.{count-in_order, number-ranked, summary-at}

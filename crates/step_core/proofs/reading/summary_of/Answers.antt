@@ -1,6 +1,4 @@
-use Rattle.std.proofs.Common.{◌≡◌, ◌∙◌, ap, arith}
-use Rattle.consumer_grain.specs.declared.sub_state.SubState.{SubState}
-use Rattle.subscription_table.specs.Table.{registration_at, state_at}
+use Rattle.step_core.proofs.Prelude.{SubState, ◌≡◌, ◌∙◌, ap, arith, registration_at, state_at}
 use Rattle.step_core.proofs.reading.summary_of.Goals as goal
 
 pub returns : goal.returns

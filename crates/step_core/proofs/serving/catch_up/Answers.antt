@@ -1,9 +1,4 @@
-use Rattle.std.proofs.Common.{◌≡◌, ◌∙◌, ap, sym, subst, ◌≤◌, max, false, arith}
-use Rattle.std.proofs.lemmas.Bool.{ltb-false}
-use Rattle.stream_ident.specs.Words.{past}
-use Rattle.pulling_agent.proofs.CurrentLemmas.{done-stale}
-use Rattle.queue_cache.specs.Cache.{high}
-use Rattle.subscription_table.specs.Table.{PlainTable, state_at}
+use Rattle.step_core.proofs.Prelude.{done-stale, high, ◌∙◌, sym, subst, ◌≤◌, max, false, arith, ltb-false, past, PlainTable, state_at}
 use Rattle.pulling_agent.specs.declared.told.Sought.TheVariants as sought
 use Rattle.step_core.specs.Assembly.{IsAssembled}
 use Rattle.step_core.proofs.CatchOps.{caught-assembled, caught-up}

@@ -1,5 +1,4 @@
-use Rattle.std.proofs.Common.{ap, arith}
-use Rattle.queue_cache.specs.Cache.{high}
+use Rattle.step_core.proofs.Prelude.{high, ap, arith}
 use Rattle.step_core.proofs.CatchRuns.{runs-caught}
 use Rattle.step_core.proofs.HandOps.{high-few}
 use Rattle.step_core.proofs.serving.catch_up_from.Goals as goal

@@ -1,11 +1,4 @@
-use Rattle.std.proofs.Common.{◌≡◌, ◌∙◌, ap, sym, ℕ, Some, arith}
-use Rattle.stream_ident.specs.Words.{past}
-use Rattle.stream_model.specs.Positions.{next_position}
-use Rattle.consumer_grain.specs.declared.sub_state.SubState.{SubState}
-use Rattle.stream_laws.proofs.DrainDeliver.{next-bounds}
-use Rattle.stream_ident.specs.declared.ident.StreamId.{StreamId}
-use Rattle.queue_cache.specs.Cache.{PlainCache}
-use Rattle.cache_cursor.specs.Cursor.{next_in}
+use Rattle.step_core.proofs.Prelude.{next_in, SubState, PlainCache, ◌≡◌, ◌∙◌, ap, sym, ℕ, Some, arith, past, StreamId, next-bounds, next_position}
 use Rattle.step_core.specs.PlainOf.{plain_of}
 use Rattle.step_core.specs.Records.{record_of}
 use Rattle.step_core.proofs.DeliverOps.{next-is}

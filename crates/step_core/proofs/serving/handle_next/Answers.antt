@@ -1,11 +1,4 @@
-use Rattle.std.proofs.Common.{◌≡◌, ◌∙◌, ◌<◌, ◌≤◌, ap, sym, ◌+◌, ℕ, List, [], ◌∷◌, length, false, arith}
-use Rattle.stream_ident.specs.Words.{past}
-use Rattle.queue_cache.specs.Cache.{high}
-use Rattle.consumer_grain.specs.Subscriptions.{committed}
-use Rattle.consumer_grain.specs.declared.sub_state.SubState.{SubState}
-use Rattle.subscription_table.specs.Table.{state_at, with_state}
-use Rattle.stream_model.specs.Draining.{next_note}
-use Rattle.stream_model.specs.Positions.{is_spent}
+use Rattle.step_core.proofs.Prelude.{SubState, ◌≡◌, ◌∙◌, ap, sym, ◌+◌, false, arith, past, next_note, is_spent, state_at}
 use Rattle.step_core.specs.PlainOf.{plain_of}
 use Rattle.step_core.specs.Records.{record_of}
 use Rattle.step_core.specs.Serving.{IsFresh}
@@ -32,11 +25,8 @@ returns-in-Ok-clause-assembled c =
     let note = c.next_note-note.result in
     let stands : Stands parts number = record { agrees = c.requires.agrees; within = c.requires.number } in
     let fresh : IsFresh (plain_of parts) (record_of parts number) position = c.in-Some.ensures in
-    let within : number < length parts.subs.states = omega (arith, stands.within, stands.agrees.records.long) in
-    let first : c.commit.new.self ≡ with_state parts.subs number (committed (position ∷ []) note (state_at parts.subs number)) =
-    c.in-Ok.ensures ∙ ap (λ (positions : List ℕ). with_state parts.subs number (committed positions note (state_at parts.subs number))) c.of.ensures in
     handled-assembled parts c.advance.new.self number position note stands fresh.some
-    (state-turned parts.subs c.commit.new.self c.advance.new.self number position note within first c.advance.ensures)
+    (state-turned parts c.commit.new.self c.advance.new.self number position note c.of.result stands c.of.ensures c.in-Ok.ensures c.advance.ensures)
 
 pub returns-in-Ok-clause-told : goal.returns-in-Ok-clause-told
 returns-in-Ok-clause-told c =
@@ -46,10 +36,7 @@ returns-in-Ok-clause-told c =
     let note = c.next_note-note.result in
     let stands : Stands parts number = record { agrees = c.requires.agrees; within = c.requires.number } in
     let fresh : IsFresh (plain_of parts) (record_of parts number) position = c.in-Some.ensures in
-    let within : number < length parts.subs.states = omega (arith, stands.within, stands.agrees.records.long) in
-    let first : c.commit.new.self ≡ with_state parts.subs number (committed (position ∷ []) note (state_at parts.subs number)) =
-    c.in-Ok.ensures ∙ ap (λ (positions : List ℕ). with_state parts.subs number (committed positions note (state_at parts.subs number))) c.of.ensures in
     let left : is_spent (plain_of parts) ≡ false = sym c.is_spent.ensures ∙ c.if-is_spent.false in
     let is_note : note ≡ next_note (state_at parts.subs number).note = c.next_note-note.ensures ∙ ap next_note (ap (λ (s : SubState). s.note) c.state.ensures) in
     handled-once parts c.advance.new.self number position note stands is_note left fresh (c.rests.ensures c.if-not-rests.false)
-    (state-turned parts.subs c.commit.new.self c.advance.new.self number position note within first c.advance.ensures)
+    (state-turned parts c.commit.new.self c.advance.new.self number position note c.of.result stands c.of.ensures c.in-Ok.ensures c.advance.ensures)

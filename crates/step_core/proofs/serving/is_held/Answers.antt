@@ -1,9 +1,4 @@
-use Rattle.std.proofs.Common.{◌≡◌, ◌∙◌, ap, sym, ℕ, Option}
-use Rattle.stream_ident.specs.Name.{same_grain}
-use Rattle.stream_ident.specs.Words.{place_of}
-use Rattle.consumer_grain.specs.Activations.{holds}
-use Rattle.stream_ident.specs.declared.ident.GrainId.{GrainId}
-use Rattle.subscription_table.specs.Table.{name_at, registration_at}
+use Rattle.step_core.proofs.Prelude.{holds, ◌≡◌, ◌∙◌, ap, sym, ℕ, Option, same_grain, place_of, GrainId, name_at, registration_at}
 use Rattle.step_core.specs.declared.parts.Parts.{Parts}
 use Rattle.step_core.specs.Records.{record_of}
 use Rattle.step_core.proofs.HandOps.{Stands, held-idle, held-nowhere, held-there}

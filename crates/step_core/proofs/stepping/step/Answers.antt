@@ -1,7 +1,5 @@
-use Rattle.std.proofs.Common.{sym, ap, ◌∙◌, refl}
-use Rattle.std.proofs.lemmas.Bool.{and_from, lt-ltb}
+use Rattle.step_core.proofs.Prelude.{sym, ap, ◌∙◌, refl, and_from, lt-ltb, may_allocate}
 use Rattle.step_core.proofs.OutcomeLemmas.{both-fail, fails, performs-as}
-use Rattle.stream_model.specs.Memory.{may_allocate}
 use Rattle.stream_model.specs.Step.{step}
 use Rattle.step_core.specs.PlainOf.{plain_of}
 use Rattle.step_core.proofs.stepping.step.Goals as goal

@@ -1,6 +1,4 @@
-use Rattle.std.proofs.Common.{sym, ap, ◌∙◌}
-use Rattle.stream_model.specs.declared.plain.PlainPartition.{PlainPartition}
-use Rattle.stream_model.specs.Replies.{Reply}
+use Rattle.step_core.proofs.Prelude.{sym, ap, ◌∙◌, Reply, PlainPartition}
 use Rattle.stream_model.specs.Step.{step}
 use Rattle.step_core.specs.PlainOf.{plain_of}
 use Rattle.step_core.proofs.OutcomeLemmas.{none-outside, told-as}

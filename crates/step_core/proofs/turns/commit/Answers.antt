@@ -1,15 +1,7 @@
-use Rattle.std.proofs.Common.{◌∙◌, ap, sym, subst, length, arith}
-use Rattle.consumer_grain.specs.Activations.{PlainActivation, current_turn}
-use Rattle.grain_table.specs.Changes.{activation_at}
-use Rattle.subscription_table.specs.Table.{PlainTable}
-use Rattle.stream_ident.proofs.WordLemmas.{past_from-within}
-use Rattle.stream_model.proofs.Answering.{on-error}
+use Rattle.step_core.proofs.Prelude.{PlainActivation, current_turn, ◌∙◌, ap, sym, subst, length, arith, past_from-within, on-error, PlainTable}
 use Rattle.step_core.specs.Assembly.{IsAssembled}
 use Rattle.step_core.specs.Replied.{reply_of}
-use Rattle.step_core.proofs.CommitOps.{commit-assembled, commit-stale, commit-takes, commit-told, ends-running, is-running, running-below, running-rises, running-within}
-use Rattle.step_core.proofs.NumberedOps.{known-at}
-use Rattle.step_core.proofs.Shared.{distinct-of-unique}
-use Rattle.step_core.proofs.TurnOps.{commit-none}
+use Rattle.step_core.proofs.CommitOps.{Runs, commit-assembled, commit-none, commit-stale, commit-takes, commit-told, ends-running, is-running, running-below, running-rises, running-within}
 use Rattle.step_core.proofs.turns.commit.Goals as goal
 
 pub returns-in_default-clause-performs : goal.returns-in_default-clause-performs
@@ -18,43 +10,24 @@ returns-in_default-clause-performs c =
 
 pub returns-in_default-current_turn-clause-performs : goal.returns-in_default-current_turn-clause-performs
 returns-in_default-current_turn-clause-performs c =
-    let parts = c.args.parts.now in
-    let i = c.in-Some.number in
-    let below = known-at parts i c.requires.assembled c.in-Some.ensures.within in
     let none = ap (λ (a : PlainActivation). current_turn a c.args.activation c.args.turn) (sym c.at.ensures.activation) ∙ sym c.in_default-current_turn.ensures in
-    sym (commit-stale parts c.args.grain.now i c.args.activation c.args.turn c.args.note (distinct-of-unique parts.subs.registry.names c.requires.unique) (sym c.requires.records.long) (sym c.find.ensures.number ∙ c.in-Some.is) below none)
+    sym (commit-stale c.args.parts.now c.args.grain.now c.in-Some.number c.args.activation c.args.turn c.args.note (record { agrees = c.requires; found = sym c.find.ensures.number ∙ c.in-Some.is }) none)
 
-pub handle-requires-clause-positions : goal.handle-requires-clause-positions
-handle-requires-clause-positions c =
+pub handle-requires : goal.handle-requires
+handle-requires c =
     let parts = c.args.parts.now in
-    let i = c.in-Some.number in
-    let a = activation_at parts.grains i in
     let run = c.in-Some-current_turn.run'.now in
-    let is_current = ap (λ (a : PlainActivation). current_turn a c.args.activation c.args.turn) (sym c.at.ensures.activation) ∙ sym c.in-Some-current_turn.ensures in
-    let runs = is-running a.running run a.number c.args.activation c.args.turn is_current in
-    running-within parts c.args.grain.now i run c.requires.within (sym c.find.ensures.number ∙ c.in-Some.is) runs.0
-
-pub handle-requires-clause-rising : goal.handle-requires-clause-rising
-handle-requires-clause-rising c =
-    let parts = c.args.parts.now in
-    let i = c.in-Some.number in
-    let a = activation_at parts.grains i in
-    let run = c.in-Some-current_turn.run'.now in
-    let below = known-at parts i c.requires.assembled c.in-Some.ensures.within in
-    let is_current = ap (λ (a : PlainActivation). current_turn a c.args.activation c.args.turn) (sym c.at.ensures.activation) ∙ sym c.in-Some-current_turn.ensures in
-    let runs = is-running a.running run a.number c.args.activation c.args.turn is_current in
-    running-rises parts c.args.grain.now i run c.requires.reached (distinct-of-unique parts.subs.registry.names c.requires.unique) (sym c.requires.records.long) (sym c.find.ensures.number ∙ c.in-Some.is) (running-below (length parts.subs.registry.names) a.running run below.running runs.0) runs.0
-
-pub handle-requires-clause-room : goal.handle-requires-clause-room
-handle-requires-clause-room c =
-    let parts = c.args.parts.now in
-    let i = c.in-Some.number in
-    let a = activation_at parts.grains i in
-    let run = c.in-Some-current_turn.run'.now in
-    let is_current = ap (λ (a : PlainActivation). current_turn a c.args.activation c.args.turn) (sym c.at.ensures.activation) ∙ sym c.in-Some-current_turn.ensures in
-    let runs = is-running a.running run a.number c.args.activation c.args.turn is_current in
-    let within = running-within parts c.args.grain.now i run c.requires.within (sym c.find.ensures.number ∙ c.in-Some.is) runs.0 in
-    omega (arith, past_from-within 0 (length parts.queue.events) run.positions (omega arith) within, c.requires.within.events, c.requires.within.limits.events)
+    let runs : Runs parts c.args.grain.now c.in-Some.number c.args.activation c.args.turn run = record {
+      has = record { agrees = c.requires; found = sym c.find.ensures.number ∙ c.in-Some.is };
+      is_current = ap (λ (a : PlainActivation). current_turn a c.args.activation c.args.turn) (sym c.at.ensures.activation) ∙ sym c.in-Some-current_turn.ensures;
+    } in
+    let within = running-within parts c.args.grain.now c.in-Some.number run c.requires.within runs.has.found (is-running runs) in
+    record {
+      within = running-below runs;
+      positions = within;
+      rising = running-rises runs;
+      room = omega (arith, past_from-within 0 (length parts.queue.events) run.positions (omega arith) within, c.requires.within.events, c.requires.within.limits.events);
+    }
 
 pub returns-in_err-told-clause-assembled : goal.returns-in_err-told-clause-assembled
 returns-in_err-told-clause-assembled c =
@@ -62,24 +35,22 @@ returns-in_err-told-clause-assembled c =
 
 pub returns-in_err-told-clause-memory : goal.returns-in_err-told-clause-memory
 returns-in_err-told-clause-memory c =
-    let parts = c.args.parts.now in
-    let i = c.in-Some.number in
-    let below = known-at parts i c.requires.assembled c.in-Some.ensures.within in
-    let is_current = ap (λ (a : PlainActivation). current_turn a c.args.activation c.args.turn) (sym c.at.ensures.activation) ∙ sym c.in-Some-current_turn.ensures in
-    on-error c.from_residual.result
-    (commit-takes parts c.args.grain.now i c.args.activation c.args.turn c.args.note c.in-Some-current_turn.run'.now (distinct-of-unique parts.subs.registry.names c.requires.unique) (sym c.requires.records.long) (sym c.find.ensures.number ∙ c.in-Some.is) below is_current c.in_err-told.ensures.memory)
+    let runs : Runs c.args.parts.now c.args.grain.now c.in-Some.number c.args.activation c.args.turn c.in-Some-current_turn.run'.now = record {
+      has = record { agrees = c.requires; found = sym c.find.ensures.number ∙ c.in-Some.is };
+      is_current = ap (λ (a : PlainActivation). current_turn a c.args.activation c.args.turn) (sym c.at.ensures.activation) ∙ sym c.in-Some-current_turn.ensures;
+    } in
+    on-error c.from_residual.result (commit-takes c.args.note runs c.in_err-told.ensures.memory)
 
-pub returns-clause-assembled : goal.returns-clause-assembled
-returns-clause-assembled c =
-    let parts = c.args.parts.now in
-    let is_current = ap (λ (a : PlainActivation). current_turn a c.args.activation c.args.turn) (sym c.at.ensures.activation) ∙ sym c.in-Some-current_turn.ensures in
-    commit-assembled parts c.args.grain.now c.in-Some.number c.args.activation c.args.turn c.args.note c.in-Some-current_turn.run'.now c.handle.new.subs c.commit-ended.new.self (reply_of c.in_ok-told.told) c.requires.assembled c.requires.reached
-    (distinct-of-unique parts.subs.registry.names c.requires.unique) (sym c.requires.records.long) (sym c.find.ensures.number ∙ c.in-Some.is) is_current c.in_ok-told.ensures.performs (ends-running parts.grains c.commit-ended.new.self c.in-Some.number c.args.activation c.args.turn c.in-Some-current_turn.run'.now is_current c.commit-ended.ensures.grains)
-
-pub returns-clause-performs : goal.returns-clause-performs
-returns-clause-performs c =
-    let parts = c.args.parts.now in
-    let i = c.in-Some.number in
-    let below = known-at parts i c.requires.assembled c.in-Some.ensures.within in
-    let is_current = ap (λ (a : PlainActivation). current_turn a c.args.activation c.args.turn) (sym c.at.ensures.activation) ∙ sym c.in-Some-current_turn.ensures in
-    commit-told parts c.args.grain.now i c.args.activation c.args.turn c.args.note c.in-Some-current_turn.run'.now c.handle.new.subs c.commit-ended.new.self (reply_of c.in_ok-told.told) (distinct-of-unique parts.subs.registry.names c.requires.unique) (sym c.requires.records.long) (sym c.find.ensures.number ∙ c.in-Some.is) below is_current c.in_ok-told.ensures.performs (ends-running parts.grains c.commit-ended.new.self c.in-Some.number c.args.activation c.args.turn c.in-Some-current_turn.run'.now is_current c.commit-ended.ensures.grains)
+pub returns : goal.returns
+returns c =
+    let runs : Runs c.args.parts.now c.args.grain.now c.in-Some.number c.args.activation c.args.turn c.in-Some-current_turn.run'.now = record {
+      has = record { agrees = c.requires; found = sym c.find.ensures.number ∙ c.in-Some.is };
+      is_current = ap (λ (a : PlainActivation). current_turn a c.args.activation c.args.turn) (sym c.at.ensures.activation) ∙ sym c.in-Some-current_turn.ensures;
+    } in
+    let ends = ends-running c.commit-ended.new.self runs c.commit-ended.ensures.grains in
+    record {
+      assembled = commit-assembled c.args.note c.handle.new.subs c.commit-ended.new.self (reply_of c.in_ok-told.told) runs c.in_ok-told.ensures.performs ends;
+      performs = commit-told c.args.note c.handle.new.subs c.commit-ended.new.self (reply_of c.in_ok-told.told) runs c.in_ok-told.ensures.performs ends;
+      told = c.in_ok-told.ensures.told;
+      memory = tt;
+    }

@@ -1,11 +1,6 @@
-use Rattle.std.proofs.Common.{◌∙◌, ap, sym, subst, ℕ, List, refl}
-use Rattle.stream_model.specs.Positions.{new_grain}
-use Rattle.stream_model.proofs.Refusals.{deactivate-idle}
-use Rattle.grain_table.specs.Changes.{activation_at, no_grain}
+use Rattle.step_core.proofs.Prelude.{PlainActivation, activation_at, no_grain, ◌∙◌, ap, sym, subst, ℕ, List, refl, deactivate-idle, new_grain, AreRewound}
 use Rattle.step_core.specs.PlainOf.{plain_of}
 use Rattle.step_core.proofs.GrainOps.{grain-found, grain-new}
-use Rattle.consumer_grain.specs.Activations.{PlainActivation}
-use Rattle.subscription_table.specs.Table.{AreRewound}
 use Rattle.step_core.proofs.LeaveOps.{deactivate-assembled, deactivate-told}
 use Rattle.step_core.proofs.turns.deactivate.Goals as goal
 

@@ -1,6 +1,4 @@
-use Rattle.std.proofs.Common.{◌<◌, length, pred, sym, ap, ◌∙◌, arith}
-use Rattle.stream_ident.specs.Words.{past}
-use Rattle.stream_ident.proofs.WordLemmas.{past-last}
+use Rattle.step_core.proofs.Prelude.{◌<◌, length, pred, sym, ap, ◌∙◌, arith, past-last, past}
 use Rattle.step_core.proofs.turns.last_position.Goals as goal
 
 pub returns : goal.returns

@@ -1,10 +1,8 @@
-use Rattle.std.proofs.Common.{sym, subst, arith}
-use Rattle.stream_ident.specs.declared.ident.SubName.{SubName}
-use Rattle.stream_model.specs.declared.plain.PlainPartition.{PlainPartition}
-use Rattle.subscription_table.specs.Table.{name_at}
+use Rattle.step_core.proofs.Prelude.{sym, subst, arith, SubName, PlainPartition, name_at}
 use Rattle.step_core.specs.PlainOf.{plain_of}
 use Rattle.step_core.specs.Serving.{name_of, CatchesUp}
-use Rattle.step_core.proofs.CatchOps.{caught-reached, caught-within, count-is, name-is}
+use Rattle.step_core.proofs.AssembledTable.{agrees-led}
+use Rattle.step_core.proofs.CatchOps.{caught-leads, count-is, name-is}
 use Rattle.step_core.proofs.partition.Partition.catch_up.Goals as goal
 
 pub catch_up-is_caught_up-requires-clause-number : goal.catch_up-is_caught_up-requires-clause-number
@@ -13,17 +11,9 @@ catch_up-is_caught_up-requires-clause-number c = omega (arith, c.requires, count
 pub invariant_of-self : goal.invariant_of-self
 invariant_of-self c =
     let parts = c.self.inside.parts in
-    let old = plain_of parts in
-    let new = plain_of c.catch_up-is_caught_up.new.parts in
-    let s = name_at parts.subs c.args.number in
-    record {
-      assembled = c.catch_up-is_caught_up.ensures.assembled;
-      within = caught-within old new s c.catch_up-is_caught_up.result c.catch_up-is_caught_up.ensures.told c.self.invariant.within;
-      unique = c.len.ensures.unique;
-      records = c.len.ensures.records;
-      distinct = c.len-2.ensures.distinct;
-      reached = caught-reached old new s c.catch_up-is_caught_up.result c.catch_up-is_caught_up.ensures.told c.self.invariant.reached;
-    }
+    let called = c.catch_up-is_caught_up in
+    agrees-led parts called.new.parts c.self.invariant called.ensures.assembled c.len.ensures.unique c.len.ensures.records c.len-2.ensures.distinct
+    (caught-leads (plain_of parts) (plain_of called.new.parts) (name_at parts.subs c.args.number) called.result called.ensures.told)
 
 pub returns : goal.returns
 returns c =

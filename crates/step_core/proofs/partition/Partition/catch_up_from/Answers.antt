@@ -1,7 +1,4 @@
-use Rattle.std.proofs.Common.{◌<◌, ℕ, refl, sym, subst, arith}
-use Rattle.std.specs.Prelude.{IfSome}
-use Rattle.stream_model.specs.declared.plain.PlainPartition.{PlainPartition}
-use Rattle.subscription_table.specs.Table.{name_at}
+use Rattle.step_core.proofs.Prelude.{◌<◌, ℕ, refl, sym, subst, arith, IfSome, PlainPartition, name_at}
 use Rattle.step_core.specs.PlainOf.{plain_of}
 use Rattle.step_core.specs.Serving.{name_of, CatchesUpFrom}
 use Rattle.step_core.proofs.CatchOps.{count-is, name-is}

@@ -1,9 +1,4 @@
-use Rattle.std.proofs.Common.{◌∙◌, ◌<◌, length, ap, sym, ℕ, Some, arith}
-use Rattle.std.specs.Option.{option_map}
-use Rattle.consumer_grain.specs.declared.sub_state.SubState.{SubState}
-use Rattle.stream_model.specs.declared.plain.PlainPartition.{PlainPartition}
-use Rattle.stream_model.specs.Positions.{sub_at}
-use Rattle.step_core.specs.PlainOf.{plain_of}
+use Rattle.step_core.proofs.Prelude.{SubState, ◌∙◌, ◌<◌, length, ap, sym, Some, arith, option_map, sub_at, PlainPartition}
 use Rattle.step_core.specs.Serving.{cursor_of, name_of}
 use Rattle.step_core.proofs.CatchOps.{count-is, number-found}
 use Rattle.step_core.proofs.partition.Partition.cursor.Goals as goal

@@ -1,23 +1,10 @@
-use Rattle.stream_model.specs.declared.op.Op.{Op}
-use Rattle.stream_model.specs.declared.op.Op.TheVariants.{Deliver}
-use Rattle.stream_model.specs.Step.{step}
-use Rattle.stream_model.proofs.Answering.{within-after}
-use Rattle.stream_model.proofs.Reaching.{reached-after}
-use Rattle.stream_model.proofs.StepBounds.{bounds-step}
-use Rattle.step_core.specs.PlainOf.{plain_of}
+use Rattle.step_core.proofs.Prelude.{Deliver}
 use Rattle.step_core.specs.Replied.{replied}
+use Rattle.step_core.proofs.AssembledTable.{agrees-after}
 use Rattle.step_core.proofs.partition.Partition.deliver.Goals as goal
 
 pub invariant_of-self : goal.invariant_of-self
 invariant_of-self c =
-    let old = plain_of c.self.inside.parts in
-    let new = plain_of c.deliver_now-told.new.parts in
-    let op : Op = Deliver old.generation c.args.sub.now in
-    record {
-      assembled = c.deliver_now-told.ensures.assembled;
-      within = within-after old new (replied c.deliver_now-told.result) (step old op) c.deliver_now-told.ensures.performs c.self.invariant.within (bounds-step old op c.self.invariant.within);
-      unique = c.len.ensures.unique;
-      records = c.len.ensures.records;
-      distinct = c.len-2.ensures.distinct;
-      reached = reached-after old new op (replied c.deliver_now-told.result) c.deliver_now-told.ensures.performs c.self.invariant.reached;
-    }
+    let called = c.deliver_now-told in
+    agrees-after c.self.inside.parts called.new.parts c.self.invariant called.ensures.assembled c.len.ensures.unique c.len.ensures.records c.len-2.ensures.distinct
+    (Deliver c.self.inside.parts.agent.generation c.args.sub.now) (replied called.result) called.ensures.performs

@@ -1,9 +1,4 @@
-use Rattle.std.proofs.Common.{◌∙◌, ◌<◌, length, ap, sym, Some, arith}
-use Rattle.std.specs.Option.{option_map}
-use Rattle.stream_ident.specs.declared.ident.GrainId.{GrainId}
-use Rattle.stream_model.specs.declared.plain.PlainPartition.{PlainPartition}
-use Rattle.stream_model.specs.Positions.{sub_at}
-use Rattle.step_core.specs.PlainOf.{plain_of}
+use Rattle.step_core.proofs.Prelude.{◌∙◌, ◌<◌, length, ap, sym, Some, arith, option_map, GrainId, sub_at, PlainPartition}
 use Rattle.step_core.specs.Serving.{grain_of, name_of}
 use Rattle.step_core.proofs.CatchOps.{count-is, number-found}
 use Rattle.step_core.proofs.partition.Partition.grain.Goals as goal

@@ -1,10 +1,8 @@
-use Rattle.std.proofs.Common.{sym, subst, arith}
-use Rattle.stream_ident.specs.declared.ident.SubName.{SubName}
-use Rattle.stream_model.specs.declared.plain.PlainPartition.{PlainPartition}
-use Rattle.subscription_table.specs.Table.{name_at}
+use Rattle.step_core.proofs.Prelude.{sym, subst, arith, SubName, PlainPartition, name_at}
 use Rattle.step_core.specs.PlainOf.{plain_of}
 use Rattle.step_core.specs.Serving.{name_of, HandlesNext}
-use Rattle.step_core.proofs.CatchOps.{count-is, handled-reached, handled-within, name-is}
+use Rattle.step_core.proofs.AssembledTable.{agrees-led}
+use Rattle.step_core.proofs.CatchOps.{count-is, handled-leads, name-is}
 use Rattle.step_core.proofs.partition.Partition.handle_next.Goals as goal
 
 pub handle_next-is_handled-requires-clause-number : goal.handle_next-is_handled-requires-clause-number
@@ -13,17 +11,9 @@ handle_next-is_handled-requires-clause-number c = omega (arith, c.requires, coun
 pub invariant_of-self : goal.invariant_of-self
 invariant_of-self c =
     let parts = c.self.inside.parts in
-    let old = plain_of parts in
-    let new = plain_of c.handle_next-is_handled.new.parts in
-    let s = name_at parts.subs c.args.number in
-    record {
-      assembled = c.handle_next-is_handled.ensures.assembled;
-      within = handled-within old new s c.handle_next-is_handled.result c.handle_next-is_handled.ensures.told c.self.invariant.within;
-      unique = c.len.ensures.unique;
-      records = c.len.ensures.records;
-      distinct = c.len-2.ensures.distinct;
-      reached = handled-reached old new s c.handle_next-is_handled.result c.handle_next-is_handled.ensures.told c.self.invariant.reached;
-    }
+    let called = c.handle_next-is_handled in
+    agrees-led parts called.new.parts c.self.invariant called.ensures.assembled c.len.ensures.unique c.len.ensures.records c.len-2.ensures.distinct
+    (handled-leads (plain_of parts) (plain_of called.new.parts) (name_at parts.subs c.args.number) called.result called.ensures.told)
 
 pub returns : goal.returns
 returns c =

@@ -1,4 +1,4 @@
-use Rattle.std.proofs.Common.{◌∙◌, ap, sym, arith}
+use Rattle.step_core.proofs.Prelude.{◌∙◌, ap, sym, arith}
 use Rattle.step_core.specs.Serving.{name_of}
 use Rattle.step_core.proofs.CatchOps.{count-is, name-is}
 use Rattle.step_core.proofs.partition.Partition.name.Goals as goal

@@ -1,7 +1,4 @@
-use Rattle.std.proofs.Common.{◌≡◌, ◌∙◌, ◌<◌, ℕ, ap, sym, subst}
-use Rattle.std.specs.Option.{option_map}
-use Rattle.std.specs.Prelude.{IfSome}
-use Rattle.stream_model.specs.declared.plain.PlainPartition.{PlainPartition}
+use Rattle.step_core.proofs.Prelude.{◌≡◌, ◌∙◌, ◌<◌, ℕ, ap, sym, subst, option_map, IfSome, PlainPartition}
 use Rattle.step_core.specs.PlainOf.{plain_of}
 use Rattle.step_core.specs.Serving.{name_of, next_due}
 use Rattle.step_core.proofs.CatchOps.{count-is, option-name-is}

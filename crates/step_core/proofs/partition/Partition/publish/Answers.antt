@@ -1,16 +1,8 @@
-use Rattle.std.proofs.Common.{◌≡◌, true, map, refl, subst}
-use Rattle.std.specs.Prelude.{OnErr}
-use Rattle.std.proofs.lemmas.Bool.{and_from}
-use Rattle.stream_ident.specs.Words.{Performs}
-use Rattle.stream_model.specs.declared.op.Op.{Op}
-use Rattle.stream_model.specs.declared.op.Op.TheVariants.{Publish}
-use Rattle.stream_model.specs.Memory.{may_allocate}
+use Rattle.step_core.proofs.Prelude.{◌≡◌, true, map, refl, subst, and_from, OnErr, Performs, may_allocate, Op, Publish}
 use Rattle.stream_model.specs.Step.{step}
-use Rattle.stream_model.proofs.Answering.{within-after}
-use Rattle.stream_model.proofs.Reaching.{reached-after}
-use Rattle.stream_model.proofs.StepBounds.{bounds-step}
 use Rattle.step_core.specs.PlainOf.{plain_of}
 use Rattle.step_core.specs.Replies.{appended_reply}
+use Rattle.step_core.proofs.AssembledTable.{agrees-after}
 use Rattle.step_core.proofs.OutcomeLemmas.{fails}
 use Rattle.step_core.proofs.partition.Partition.publish.Goals as goal
 
@@ -26,17 +18,8 @@ done c = c.publish_slices-appended.ensures.performs
 pub invariant_of-self : goal.invariant_of-self
 invariant_of-self c =
     let outcome = c.publish_slices-appended in
-    let old = plain_of c.self.inside.parts in
-    let new = plain_of outcome.new.parts in
-    let reply = appended_reply outcome.result in
-    record {
-      assembled = outcome.ensures.assembled;
-      within = within-after old new reply (step old (op c)) (done c) c.self.invariant.within (bounds-step old (op c) c.self.invariant.within);
-      unique = c.len.ensures.unique;
-      records = c.len.ensures.records;
-      distinct = c.len-2.ensures.distinct;
-      reached = reached-after old new (op c) reply (done c) c.self.invariant.reached;
-    }
+    agrees-after c.self.inside.parts outcome.new.parts c.self.invariant outcome.ensures.assembled c.len.ensures.unique c.len.ensures.records c.len-2.ensures.distinct
+    (op c) (appended_reply outcome.result) (done c)
 
 pub returns-clause-performs : goal.returns-clause-performs
 returns-clause-performs c =

@@ -1,5 +1,4 @@
-use Rattle.std.proofs.Common.{◌∙◌, ap, sym}
-use Rattle.stream_model.specs.Looks.{pending_in}
+use Rattle.step_core.proofs.Prelude.{◌∙◌, ap, sym, pending_in}
 use Rattle.step_core.proofs.FinishingLemmas.{owes-nothing}
 use Rattle.step_core.proofs.partition.Partition.quiet.Goals as goal
 

@@ -1,10 +1,6 @@
-use Rattle.std.proofs.Common.{◌≡◌, List, [], ◌∷◌, ◌++◌, ◌<◌, reverse, length, sym, ap, ◌∙◌, append_assoc, subst, arith, length-append, inr, true}
-use Rattle.std.proofs.lemmas.Bool.{eqb-false}
-use Rattle.std.proofs.lemmas.List.{reverse-append}
-use Rattle.stream_model.specs.declared.op.Op.{Op}
-use Rattle.stream_model.specs.Memory.{may_allocate}
+use Rattle.step_core.proofs.Prelude.{◌≡◌, List, [], ◌∷◌, ◌++◌, ◌<◌, reverse, length, sym, ap, ◌∙◌, subst, arith, inr, true, eqb-false, reverse-append, on-error, may_allocate, Op}
+use Rattle.std.proofs.Common.{append_assoc, length-append}
 use Rattle.step_core.specs.Run.{Does, StopsBefore}
-use Rattle.stream_model.proofs.Answering.{on-error}
 use Rattle.step_core.proofs.RunLemmas.{Does-more, stops-at-once}
 use Rattle.step_core.proofs.partition.Partition.run.Goals as goal
 

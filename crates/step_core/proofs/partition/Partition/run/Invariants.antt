@@ -1,5 +1,4 @@
-use Rattle.std.proofs.Common.{◌≡◌, ◌++◌, ◌+◌, ◌≤◌, List, reverse, length, vec_len, vec_capacity}
-use Rattle.stream_model.specs.declared.op.Op.{Op}
+use Rattle.step_core.proofs.Prelude.{◌≡◌, ◌++◌, ◌+◌, ◌≤◌, List, reverse, length, vec_len, vec_capacity, Op}
 use Rattle.step_core.specs.Run.{Does}
 use Rattle.step_core.proofs.partition.Partition.run.Given as goal
 

@@ -1,5 +1,4 @@
-use Rattle.std.proofs.Common.{◌≡◌, ◌<◌, length, Some, slice_get, sym, subst}
-use Rattle.stream_model.specs.declared.plain.PlainPartition.{PlainPartition}
+use Rattle.step_core.proofs.Prelude.{◌≡◌, ◌<◌, length, Some, slice_get, sym, subst, PlainPartition}
 use Rattle.step_core.specs.Reads.{summaries_in_order}
 use Rattle.step_core.proofs.partition.Partition.sub_at.Goals as goal
 

@@ -1,5 +1,4 @@
-use Rattle.std.proofs.Common.{◌∙◌, length, ap, sym}
-use Rattle.stream_model.specs.declared.plain.PlainPartition.{PlainPartition}
+use Rattle.step_core.proofs.Prelude.{◌∙◌, length, ap, sym, PlainPartition}
 use Rattle.step_core.specs.Reads.{summaries_in_order}
 use Rattle.step_core.proofs.SummaryLemmas.{count-in_order}
 use Rattle.step_core.proofs.partition.Partition.sub_count.Goals as goal

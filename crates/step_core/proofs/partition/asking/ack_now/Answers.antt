@@ -1,6 +1,4 @@
-use Rattle.std.proofs.Common.{subst, Ok}
-use Rattle.stream_ident.specs.Words.{Performs}
-use Rattle.stream_model.specs.declared.op.Op.TheVariants.{Ack}
+use Rattle.step_core.proofs.Prelude.{subst, Ok, Performs, Ack}
 use Rattle.stream_model.specs.Step.{step}
 use Rattle.step_core.specs.PlainOf.{plain_of}
 use Rattle.step_core.specs.Replied.{reply_of}

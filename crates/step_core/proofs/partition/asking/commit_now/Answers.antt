@@ -1,6 +1,5 @@
+use Rattle.step_core.proofs.Prelude.{refl, and_from}
 use Rattle.stream_model.specs.Step.{step}
-use Rattle.std.proofs.Common.{refl}
-use Rattle.std.proofs.lemmas.Bool.{and_from}
 use Rattle.step_core.proofs.OutcomeLemmas.{fails}
 use Rattle.step_core.proofs.partition.asking.commit_now.Goals as goal
 

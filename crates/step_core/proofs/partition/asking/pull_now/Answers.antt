@@ -1,12 +1,7 @@
-use Rattle.std.proofs.Common.{◌≡◌, subst, true}
-use Rattle.std.specs.Prelude.{OnErr}
-use Rattle.stream_ident.specs.Words.{Performs}
-use Rattle.stream_model.specs.declared.op.Op.TheVariants.{Pull}
+use Rattle.step_core.proofs.Prelude.{◌≡◌, subst, true, and_from, lt-ltb, OnErr, Performs, may_allocate, Pull}
 use Rattle.stream_model.specs.Step.{step}
 use Rattle.step_core.specs.PlainOf.{plain_of}
 use Rattle.step_core.specs.Replied.{replied}
-use Rattle.std.proofs.lemmas.Bool.{and_from, lt-ltb}
-use Rattle.stream_model.specs.Memory.{may_allocate}
 use Rattle.step_core.proofs.OutcomeLemmas.{both-fail, fails}
 use Rattle.step_core.proofs.partition.asking.pull_now.Goals as goal
 
