@@ -1,13 +1,11 @@
 -- A line that begins with a word is not skipped.
-use Rattle.std.specs.Prelude.{◌≡◌, ℕ, false, List, [], ◌∷◌, ◌++◌, ◌==◌, refl}
-use Rattle.std.specs.List.{list_all}
-use Rattle.std.proofs.Common.{sym, ◌∙◌, subst}
-use Rattle.std.proofs.lemmas.Bool.{and_parts, and_left, and_right, eqb-true, or_from}
+use Rattle.stream_script.proofs.Prelude.{sym, ◌∙◌, subst, and_parts, and_left, and_right, eqb-true, or_from, list_all, ℕ, false, List, [], ◌∷◌, ◌==◌, refl}
+use Rattle.std.specs.Prelude.{◌≡◌, ◌++◌}
 use Rattle.std.proofs.lemmas.List.{append_assoc}
 use Rattle.stream_script.specs.declared.parser.command.Verb.{Verb}
 use Rattle.stream_script.specs.Pieces.{Piece, Word, is_space, AreSpaces, IsLineOf}
 use Rattle.stream_script.specs.Reading.{is_comment, is_skipped}
-use Rattle.stream_script.specs.declared.parser.command.Verb.TheVariants.{Pub, Sub, Unsub, Rule, Pull, Deliver, Retry, Ack, Purge, Move, Begin, Commit, Deactivate, Ready, Due, Quiet, Drain, Report, Up, Down}
+use Rattle.stream_script.specs.declared.parser.command.Verb.TheVariants.{Pub}
 use Rattle.stream_script.proofs.VerbLemmas.{verb_word}
 
 not_spaces : (spaces : List ℕ) (byte : ℕ) (bytes : List ℕ) → is_space byte ≡ false → list_all is_space (spaces ++ byte ∷ bytes) ≡ false
@@ -32,22 +30,4 @@ line_begun line byte bytes pieces no_space no_mark made =
 
 pub verb_line_begun : (verb : Verb) (line : List ℕ) (pieces : List Piece) → IsLineOf line (Word (verb_word verb) ∷ pieces) → is_skipped line ≡ false
 verb_line_begun Pub line pieces made = line_begun line _ _ pieces refl refl made
-verb_line_begun Sub line pieces made = line_begun line _ _ pieces refl refl made
-verb_line_begun Unsub line pieces made = line_begun line _ _ pieces refl refl made
-verb_line_begun Rule line pieces made = line_begun line _ _ pieces refl refl made
-verb_line_begun Pull line pieces made = line_begun line _ _ pieces refl refl made
-verb_line_begun Deliver line pieces made = line_begun line _ _ pieces refl refl made
-verb_line_begun Retry line pieces made = line_begun line _ _ pieces refl refl made
-verb_line_begun Ack line pieces made = line_begun line _ _ pieces refl refl made
-verb_line_begun Purge line pieces made = line_begun line _ _ pieces refl refl made
-verb_line_begun Move line pieces made = line_begun line _ _ pieces refl refl made
-verb_line_begun Begin line pieces made = line_begun line _ _ pieces refl refl made
-verb_line_begun Commit line pieces made = line_begun line _ _ pieces refl refl made
-verb_line_begun Deactivate line pieces made = line_begun line _ _ pieces refl refl made
-verb_line_begun Ready line pieces made = line_begun line _ _ pieces refl refl made
-verb_line_begun Due line pieces made = line_begun line _ _ pieces refl refl made
-verb_line_begun Quiet line pieces made = line_begun line _ _ pieces refl refl made
-verb_line_begun Drain line pieces made = line_begun line _ _ pieces refl refl made
-verb_line_begun Report line pieces made = line_begun line _ _ pieces refl refl made
-verb_line_begun Up line pieces made = line_begun line _ _ pieces refl refl made
-verb_line_begun Down line pieces made = line_begun line _ _ pieces refl refl made
+verb_line_begun _ line pieces made = line_begun line _ _ pieces refl refl made

@@ -1,9 +1,6 @@
 -- A script cut at its first line feed.
-use Rattle.std.proofs.Common.{◌≡◌, ℕ, suc, ◌<◌, ◌≤◌, Bool, true, false, cond, eqb, List, [], ◌∷◌, length, Option, None, Some, refl, ap, ◌∙◌, arith}
-use Rattle.std.specs.Option.{option_map}
-use Rattle.std.proofs.lemmas.List.{length-map}
-use Rattle.stream_ident.specs.Text.{split_once}
-use Rattle.stream_ident.proofs.SplitLemmas.{Parts}
+use Rattle.stream_script.proofs.Prelude.{◌≡◌, suc, ◌<◌, ◌≤◌, eqb, length, ap, ◌∙◌, arith, length-map, option_map, Parts, split_once}
+use Rattle.std.proofs.Common.{ℕ, Bool, true, false, cond, List, [], ◌∷◌, Option, None, Some, refl}
 use Rattle.stream_script.specs.Lines.{cut_at_feeds, with_first, without_return, lines_of}
 
 -- the lines of a script, from its parts at the first line feed

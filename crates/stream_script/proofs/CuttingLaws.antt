@@ -1,6 +1,6 @@
 -- The cutting gives just the pieces of which a line is made, and a line without any is a bad text.
-use Rattle.std.specs.Prelude.{◌≡◌, ℕ, List, Option, Some, None, refl}
-use Rattle.std.proofs.Common.{sym, ◌∙◌}
+use Rattle.stream_script.proofs.Prelude.{sym, ◌∙◌, ℕ, List, Option, Some, None, refl}
+use Rattle.std.specs.Prelude.{◌≡◌}
 use Rattle.stream_script.specs.Cutting.{FindsPieces, FindsNone, HasNoPieces, NoPiecesIsBadText}
 use Rattle.stream_script.specs.Lexer.{pieces_of}
 use Rattle.stream_script.specs.Pieces.{Piece}

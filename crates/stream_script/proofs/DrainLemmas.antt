@@ -1,9 +1,7 @@
 -- A line that drains the partitions.
-use Rattle.std.proofs.Common.{◌≡◌, ℕ, ◌+◌, ◌<◌, List, ◌++◌, length, get_or, set, take, drop, Some, Result, Ok, Err, refl, sym, ap, ◌∙◌}
-use Rattle.std.specs.Prelude.{OnOk}
-use Rattle.std.proofs.lemmas.List.{get_or_read}
+use Rattle.stream_script.proofs.Prelude.{◌≡◌, ◌+◌, ◌<◌, ◌++◌, length, get_or, set, take, drop, Result, Err, sym, ap, ◌∙◌, get_or_read, OnOk, PlainPartition}
+use Rattle.std.proofs.Common.{ℕ, List, Some, Ok, refl}
 use Rattle.stream_model.specs.declared.drain_end.DrainEnd.{DrainEnd}
-use Rattle.stream_model.specs.declared.plain.PlainPartition.{PlainPartition}
 use Rattle.stream_model.specs.Draining.{drain}
 use Rattle.stream_script.specs.Replies.{drain_line}
 use Rattle.stream_script.specs.Simulation.{behind, end_line, drained, drained_each}

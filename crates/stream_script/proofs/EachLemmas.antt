@@ -1,7 +1,6 @@
 -- Partitions taken one after another, in the order of their queues.
-use Rattle.std.proofs.Common.{◌≡◌, ℕ, suc, ◌+◌, ◌<◌, List, [], ◌∷◌, ◌++◌, length, get_or, set, take, drop, sym, ap, ◌∙◌, append_assoc, arith, add-one, drop-cons}
-use Rattle.std.proofs.lemmas.List.{drop-set-lt, take_more_set}
-use Rattle.stream_model.specs.declared.plain.PlainPartition.{PlainPartition}
+use Rattle.stream_script.proofs.Prelude.{◌≡◌, suc, ◌+◌, ◌<◌, ◌++◌, length, get_or, set, take, drop, sym, ap, ◌∙◌, append_assoc, arith, add-one, drop-cons, drop-set-lt, take_more_set, PlainPartition}
+use Rattle.std.proofs.Common.{ℕ, List, [], ◌∷◌}
 use Rattle.stream_script.specs.Simulation.{behind}
 
 -- what the first partition leaves stands in front of what the others leave

@@ -1,22 +1,11 @@
 -- A field that is read is written so, and what is written so is read.
-use Rattle.std.specs.Prelude.{◌≡◌, ℕ, ◌^◌, ◌<◌, Bool, true, false, not, List, [], ◌∷◌, ◌++◌, Option, Some, None, Result, Ok, Err, nat_lt, ◌==◌, refl}
-use Rattle.std.specs.Fmt.{decimal}
-use Rattle.std.specs.List.{list_all}
-use Rattle.std.proofs.Common.{ap, ◌∙◌, subst, arith}
-use Rattle.std.proofs.lemmas.Bool.{and_parts, and_from, ltb-true, lt-ltb}
-use Rattle.std.proofs.lemmas.Bool.Decides.{nat_tests}
+use Rattle.stream_script.proofs.Prelude.{ap, ◌∙◌, subst, arith, and_parts, and_from, ltb-true, lt-ltb, nat_tests, decimal, list_all, ℕ, ◌^◌, Bool, true, false, not, List, [], ◌∷◌, Option, Some, None, Ok, nat_lt, ◌==◌, refl, split_once-front, split_once-joined, is_name_byte, IsName, IsPayload, wrong_in_name, wrong_in_payload, name_or, name_of, payload_or, payload_of, field_or, field_of, stream_of, grain_of, ◌>>=◌, split_once, token_of, token_text, IsToken, GrainId, StreamId}
+use Rattle.std.specs.Prelude.{◌≡◌, ◌<◌, Result, Err}
 use Rattle.stream_ident.proofs.NameLemmas.{IsName-from_right, IsPayload-from_right, wrong_in_name-none, wrong_in_payload-none}
 use Rattle.stream_ident.proofs.NumberLemmas.{number_of-decimal, decimal-number_of}
-use Rattle.stream_ident.proofs.SplitLemmas.{split_once-front, split_once-joined}
 use Rattle.stream_ident.proofs.TokenLemmas.{token_of-token_text, token_text-token_of}
-use Rattle.stream_ident.specs.declared.ident.GrainId.{GrainId}
-use Rattle.stream_ident.specs.declared.ident.StreamId.{StreamId}
 use Rattle.stream_ident.specs.declared.token.Token.{Token}
-use Rattle.stream_ident.specs.Name.{name_or, name_of, payload_or, payload_of, field_or, field_of, stream_of, grain_of, ◌>>=◌}
 use Rattle.stream_ident.specs.Number.{number_of}
-use Rattle.stream_ident.specs.Text.{split_once}
-use Rattle.stream_ident.specs.Token.{token_of, token_text, IsToken}
-use Rattle.stream_ident.specs.Alphabet.{is_name_byte, IsName, IsPayload, wrong_in_name, wrong_in_payload}
 use Rattle.stream_script.specs.declared.parser.command.FaultKind.{FaultKind}
 use Rattle.stream_script.specs.declared.parser.command.FaultKind.TheVariants as kind
 use Rattle.stream_script.specs.Fields.{or_fault, as_fault, guard, number_field, queue_field, stream_field, grain_field, token_field, payload_field, bare_name_field}
@@ -29,7 +18,7 @@ pub bind_ok : {A B E : Type 0} (r : Result A E) (f : A → Result B E) (y : B) �
 bind_ok (Ok x) f y e = (x, refl, e)
 bind_ok (Err fault) f y e = absurd cc
 
-abbrev done : {A : Type 0} → A → Result A FaultKind
+abbrev pub done : {A : Type 0} → A → Result A FaultKind
 done x = Ok x
 
 pub ok_is : {A : Type 0} (x y : A) → done x ≡ done y → x ≡ y
@@ -101,10 +90,10 @@ name_of-found bytes found e =
 pub name_of-again : (bytes : List ℕ) → IsName bytes → name_of bytes ≡ Ok bytes
 name_of-again bytes is = ap (name_or bytes) (wrong_in_name-none bytes is)
 
-field_of-found : (field : ℕ) (bytes found : List ℕ) → field_of field bytes ≡ Ok found → (bytes ≡ found) × IsName found
+field_of-found : (field : ℕ) (bytes found : List ℕ) → field_of field bytes ≡ Ok found → (bytes ≡ found) × IsName bytes
 field_of-found field bytes found e =
     let parts = field_or-ok field bytes (wrong_in_name bytes) found e in
-    (parts.1, subst IsName parts.1 (IsName-from_right bytes parts.0))
+    (parts.1, IsName-from_right bytes parts.0)
 
 field_of-again : (field : ℕ) (bytes : List ℕ) → IsName bytes → field_of field bytes ≡ Ok bytes
 field_of-again field bytes is = ap (field_or field bytes) (wrong_in_name-none bytes is)
@@ -129,23 +118,22 @@ bare_name_again name is = ap (as_fault kind.BadName) (name_of-again name is)
 
 -- ---- streams and grains
 
-stream_of-found : (front back : List ℕ) (stream : StreamId) → stream_of front back ≡ Ok stream → (front ≡ stream.namespace) × (back ≡ stream.key) × IsStream stream
-stream_of-found front back stream e =
-    let a = bind_ok (field_of 0 front) (λ namespace. field_of 1 back >>= λ key. Ok (record { namespace = namespace; key = key })) stream e in
-    let b = bind_ok (field_of 1 back) (λ key. Ok (record { namespace = a.0; key = key })) stream a.2 in
-    let namespace : a.0 ≡ stream.namespace = cc in
-    let key : b.0 ≡ stream.key = cc in
+-- an id of two names
+names_found : {A : Type 0} (make : List ℕ → List ℕ → A) (front back : List ℕ) (x : A) → (field_of 0 front >>= λ a. field_of 1 back >>= λ b. Ok (make a b)) ≡ Ok x → (make front back ≡ x) × IsName front × IsName back
+names_found make front back x e =
+    let a = bind_ok (field_of 0 front) (λ a. field_of 1 back >>= λ b. Ok (make a b)) x e in
+    let b = bind_ok (field_of 1 back) (λ b. Ok (make a.0 b)) x a.2 in
     let first = field_of-found 0 front a.0 a.1 in
     let second = field_of-found 1 back b.0 b.1 in
-    (first.0 ∙ namespace, second.0 ∙ key, (subst IsName namespace first.1, subst IsName key second.1))
+    (cc (first.0, second.0, b.2), first.1, second.1)
 
 pub stream_found : (bytes : List ℕ) (stream : StreamId) → stream_field bytes ≡ Ok stream → (bytes ≡ stream_text stream) × IsStream stream
 unfolding stream_field
 stream_found bytes stream e =
     let a = bind_ok (or_fault kind.BadName (split_once 47 bytes)) (λ parts. as_fault kind.BadName (stream_of parts.0 parts.1)) stream e in
     let joined = split_once-joined 47 bytes a.0 (or_fault_ok kind.BadName (split_once 47 bytes) a.0 a.1) in
-    let found = stream_of-found a.0.0 a.0.1 stream (as_fault_ok kind.BadName (stream_of a.0.0 a.0.1) stream a.2) in
-    (joined ∙ (ap (λ (front : List ℕ). front ++ 47 ∷ a.0.1) found.0 ∙ ap (λ (back : List ℕ). stream.namespace ++ 47 ∷ back) found.1), found.2)
+    let found = names_found {A = StreamId} (λ namespace key. record { namespace = namespace; key = key }) a.0.0 a.0.1 stream (as_fault_ok kind.BadName (stream_of a.0.0 a.0.1) stream a.2) in
+    subst (λ (s : StreamId). (bytes ≡ stream_text s) × IsStream s) found.0 (joined, (found.1, found.2))
 
 pub stream_again : (stream : StreamId) → IsStream stream → stream_field (stream_text stream) ≡ Ok stream
 unfolding stream_field
@@ -153,23 +141,13 @@ stream_again stream is =
     let cut = split_once-front 47 stream.namespace stream.key (list_all-weaker is_name_byte (λ byte. not (byte == 47)) no_slash stream.namespace is.0.good) in
     rw (cut, field_of-again 0 stream.namespace is.0, field_of-again 1 stream.key is.1) refl
 
-grain_of-found : (front back : List ℕ) (grain : GrainId) → grain_of front back ≡ Ok grain → (front ≡ grain.kind) × (back ≡ grain.key) × IsGrain grain
-grain_of-found front back grain e =
-    let a = bind_ok (field_of 0 front) (λ kind. field_of 1 back >>= λ key. Ok (record { kind = kind; key = key })) grain e in
-    let b = bind_ok (field_of 1 back) (λ key. Ok (record { kind = a.0; key = key })) grain a.2 in
-    let kind : a.0 ≡ grain.kind = cc in
-    let key : b.0 ≡ grain.key = cc in
-    let first = field_of-found 0 front a.0 a.1 in
-    let second = field_of-found 1 back b.0 b.1 in
-    (first.0 ∙ kind, second.0 ∙ key, (subst IsName kind first.1, subst IsName key second.1))
-
 pub grain_found : (bytes : List ℕ) (grain : GrainId) → grain_field bytes ≡ Ok grain → (bytes ≡ grain_text grain) × IsGrain grain
 unfolding grain_field
 grain_found bytes grain e =
     let a = bind_ok (or_fault kind.BadName (split_once 47 bytes)) (λ parts. as_fault kind.BadName (grain_of parts.0 parts.1)) grain e in
     let joined = split_once-joined 47 bytes a.0 (or_fault_ok kind.BadName (split_once 47 bytes) a.0 a.1) in
-    let found = grain_of-found a.0.0 a.0.1 grain (as_fault_ok kind.BadName (grain_of a.0.0 a.0.1) grain a.2) in
-    (joined ∙ (ap (λ (front : List ℕ). front ++ 47 ∷ a.0.1) found.0 ∙ ap (λ (back : List ℕ). grain.kind ++ 47 ∷ back) found.1), found.2)
+    let found = names_found {A = GrainId} (λ kind key. record { kind = kind; key = key }) a.0.0 a.0.1 grain (as_fault_ok kind.BadName (grain_of a.0.0 a.0.1) grain a.2) in
+    subst (λ (g : GrainId). (bytes ≡ grain_text g) × IsGrain g) found.0 (joined, (found.1, found.2))
 
 pub grain_again : (grain : GrainId) → IsGrain grain → grain_field (grain_text grain) ≡ Ok grain
 unfolding grain_field

@@ -1,13 +1,12 @@
 -- What is read as a command is written so.
-use Rattle.std.specs.Prelude.{◌≡◌, ℕ, Bool, true, false, List, [], ◌∷◌, Option, Some, None, Result, Ok, Err, IfOk, cond, refl}
-use Rattle.std.specs.declared.alloc.AllocError.{AllocError}
-use Rattle.std.specs.List.{list_all}
-use Rattle.std.proofs.Common.{sym, ap, ◌∙◌, subst}
-use Rattle.stream_ident.specs.Name.{◌>>=◌}
-use Rattle.stream_ident.specs.Alphabet.{is_printable}
+use Rattle.stream_script.proofs.Prelude.{sym, ap, ◌∙◌, subst, arith, inl, inr, list_all, ℕ, ◌^◌, Bool, true, false, List, [], ◌∷◌, Option, Some, None, Ok, IfOk, cond, refl, AllocError, is_printable, ◌>>=◌, same_name, token_text}
+use Rattle.std.specs.Prelude.{◌≡◌, map, Result, Err, codes}
+use Rattle.std.specs.Cmp.Lexicographic.{same_text}
+use Rattle.stream_ident.specs.declared.limits.TheConstants.{MOST_SILOS}
+use Rattle.stream_model.specs.declared.op.Op.TheVariants as op
+use Rattle.stream_model.specs.declared.op.Start.TheVariants as start
 use Rattle.stream_script.specs.declared.parser.command.Command.{Command}
-use Rattle.stream_script.specs.declared.parser.command.Command.TheVariants as made
-use Rattle.stream_script.specs.declared.parser.command.EachOp.TheVariants as each
+use Rattle.stream_script.specs.declared.parser.command.Command.TheVariants.{Step}
 use Rattle.stream_script.specs.declared.parser.command.FaultKind.{FaultKind}
 use Rattle.stream_script.specs.declared.parser.command.FaultKind.TheVariants as kind
 use Rattle.stream_script.specs.declared.parser.command.Mode.{Mode}
@@ -16,55 +15,148 @@ use Rattle.stream_script.specs.declared.parser.command.Parsed.TheVariants as par
 use Rattle.stream_script.specs.declared.parser.command.Verb.{Verb}
 use Rattle.stream_script.specs.declared.parser.command.Verb.TheVariants.{Pub, Sub, Unsub, Rule, Pull, Deliver, Retry, Ack, Purge, Move, Begin, Commit, Deactivate, Ready, Due, Quiet, Drain, Report, Up, Down}
 use Rattle.stream_script.specs.Fields.{guard}
-use Rattle.stream_script.specs.Forms.{verb_command, alone, rule_words, sub_words, unsub_words, pull_words, deliver_words, retry_words, ack_words, purge_words, move_words, begin_words, commit_words, deactivate_words, ready_words, due_words, up_words, down_words}
+use Rattle.stream_script.specs.Forms.{word_of, text_of, words_of, texts_of, queue_of, pub_fields, pub_command, sub_latest, sub_from, unsub_words, rule_words, pull_fields, deliver_words, retry_words, ack_fields, purge_fields, move_words, begin_one, begin_most, commit_fields, deactivate_words, ready_first, ready_after, due_first, due_after, up_words, down_words, words_command, verb_command}
 use Rattle.stream_script.specs.Grammar.{IsSpelled, MayStand, Reads}
 use Rattle.stream_script.specs.Lexer.{pieces_of}
-use Rattle.stream_script.specs.Pieces.{Piece, Word}
+use Rattle.stream_script.specs.Pieces.{Piece, Word, Text}
 use Rattle.stream_script.specs.Reading.{command_of, lexed, line_command, is_skipped, parsed_of, reading}
+use Rattle.stream_script.specs.Spelling.{stream_text}
 use Rattle.stream_script.specs.Verbs.{may_stand, not_here, verb_in_front}
-use Rattle.stream_script.proofs.AgentFound.{pull_words-found, deliver_words-found, retry_words-found, ack_words-found, purge_words-found, move_words-found}
-use Rattle.stream_script.proofs.FieldLemmas.{bind_ok, guard_ok}
+use Rattle.stream_script.proofs.FieldLemmas.{bind_ok, done, ok_is, guard_ok, number_found, queue_found, stream_found, grain_found, token_found, bare_name_found}
 use Rattle.stream_script.proofs.LineLemmas.{line-pieces_of}
-use Rattle.stream_script.proofs.LookFound.{ready_words-found, due_words-found, quiet_found, drain_found, report_found}
-use Rattle.stream_script.proofs.ProducerFound.{pub_found, sub_words-found, unsub_words-found, rule_words-found}
-use Rattle.stream_script.proofs.SiloFound.{up_words-found, down_words-found}
-use Rattle.stream_script.proofs.StandLemmas.{Stands, worded}
-use Rattle.stream_script.proofs.VerbLemmas.{verb_word, verb_in_front-found}
-use Rattle.stream_script.proofs.WorkerFound.{begin_words-found, commit_words-found, deactivate_words-found}
+use Rattle.stream_script.proofs.StandLemmas.{Stands, word_found, text_found, read_all-found, payloads_found, read_ok}
+use Rattle.stream_script.proofs.SubLemmas.{sub_found, own_sub_found}
+use Rattle.stream_script.proofs.VerbLemmas.{verb_word, verb_in_front-found, verb-may_stand}
+
+pub_found : (queues : ℕ) (pieces : List Piece) (command : Command) → pub_command queues pieces ≡ Ok command → Stands queues Pub pieces command
+unfolding pub_fields
+pub_found queues [] command e = absurd cc
+pub_found queues (piece ∷ pieces) command e =
+    let a = bind_ok (word_of piece) _ command e in
+    let b = bind_ok (texts_of pieces) _ command a.2 in
+    let s = read_ok stream_found a.0 _ command b.2 in
+    let p = read_ok payloads_found b.0 _ command s.2 in
+    let first : piece ≡ Word (stream_text s.0) = word_found piece a.0 a.1 ∙ ap Word s.1.0 in
+    let others : pieces ≡ map Text p.0 = read_all-found text_of Text text_found pieces b.0 b.1 ∙ ap (map Text) p.1.0 in
+    subst (Stands queues Pub (piece ∷ pieces)) (ok_is _ command p.2) (refl, (s.1.1, p.1.1, refl, cc (first, others)))
+
+words_found : (queues : ℕ) (verb : Verb) (words : List (List ℕ)) (command : Command) → words_command verb queues words ≡ Ok command → Stands queues verb (map Word words) command
+unfolding sub_latest sub_from unsub_words rule_words pull_fields deliver_words retry_words ack_fields purge_fields move_words begin_one begin_most commit_fields deactivate_words ready_first ready_after due_first due_after up_words down_words
+words_found queues Sub (stream ∷ grain ∷ word ∷ []) command e =
+    let s = read_ok stream_found stream _ command e in
+    let g = read_ok grain_found grain _ command s.2 in
+    let a = bind_ok (guard kind.BadCommand (same_name word (codes "latest")) start.Latest) _ command g.2 in
+    let h = guard_ok kind.BadCommand (same_name word (codes "latest")) start.Latest a.0 a.1 in
+    let is_word : word ≡ codes "latest" = same_text word (codes "latest") (sym h.0) in
+    let is : done (Step (queue_of s.0 queues) (op.Subscribe s.0 g.0 start.Latest)) ≡ done command = rw (← h.1) at a.2 in
+    subst (Stands queues Sub (Word stream ∷ Word grain ∷ Word word ∷ [])) (ok_is _ command is) (refl, (s.1.1, g.1.1, refl, Word (codes "latest") ∷ [], refl, cc (s.1.0, g.1.0, is_word)))
+words_found queues Sub (stream ∷ grain ∷ word ∷ token ∷ []) command e =
+    let s = read_ok stream_found stream _ command e in
+    let g = read_ok grain_found grain _ command s.2 in
+    let a = bind_ok (guard kind.BadCommand (same_name word (codes "from")) token) _ command g.2 in
+    let h = guard_ok kind.BadCommand (same_name word (codes "from")) token a.0 a.1 in
+    let is_word : word ≡ codes "from" = same_text word (codes "from") (sym h.0) in
+    let t = read_ok token_found a.0 _ command a.2 in
+    subst (Stands queues Sub (Word stream ∷ Word grain ∷ Word word ∷ Word token ∷ [])) (ok_is _ command t.2) (refl, (s.1.1, g.1.1, refl, Word (codes "from") ∷ Word (token_text t.0) ∷ [], (t.1.1, refl), cc (s.1.0, g.1.0, is_word, h.1, t.1.0)))
+words_found queues Unsub (sub ∷ []) command e =
+    let s = read_ok (sub_found queues) sub _ command e in
+    subst (Stands queues Unsub (Word sub ∷ [])) (ok_is _ command s.2) (refl, (s.1.1, s.1.2, cc (s.1.0)))
+words_found queues Rule (own_kind ∷ namespace ∷ []) command e =
+    let k = read_ok bare_name_found own_kind _ command e in
+    let n = read_ok bare_name_found namespace _ command k.2 in
+    subst (Stands queues Rule (Word own_kind ∷ Word namespace ∷ [])) (ok_is _ command n.2) (refl, (k.1.1, n.1.1, cc (k.1.0, n.1.0)))
+words_found queues Pull (queue ∷ generation ∷ most ∷ []) command e =
+    let q = read_ok (queue_found queues) queue _ command e in
+    let g = read_ok (number_found (2 ^ 64)) generation _ command q.2 in
+    let m = read_ok (number_found (2 ^ 32)) most _ command g.2 in
+    subst (Stands queues Pull (Word queue ∷ Word generation ∷ Word most ∷ [])) (ok_is _ command m.2) (refl, (q.1.1, g.1.1, m.1.1, cc (q.1.0, g.1.0, m.1.0)))
+words_found queues Deliver (generation ∷ sub ∷ []) command e =
+    let g = read_ok (number_found (2 ^ 64)) generation _ command e in
+    let s = read_ok (sub_found queues) sub _ command g.2 in
+    subst (Stands queues Deliver (Word generation ∷ Word sub ∷ [])) (ok_is _ command s.2) (refl, (s.1.1, g.1.1, s.1.2, cc (g.1.0, s.1.0)))
+words_found queues Retry (generation ∷ sub ∷ []) command e =
+    let g = read_ok (number_found (2 ^ 64)) generation _ command e in
+    let s = read_ok (sub_found queues) sub _ command g.2 in
+    subst (Stands queues Retry (Word generation ∷ Word sub ∷ [])) (ok_is _ command s.2) (refl, (s.1.1, g.1.1, s.1.2, cc (g.1.0, s.1.0)))
+words_found queues Ack (generation ∷ sub ∷ token ∷ []) command e =
+    let g = read_ok (number_found (2 ^ 64)) generation _ command e in
+    let s = read_ok (sub_found queues) sub _ command g.2 in
+    let t = read_ok token_found token _ command s.2 in
+    subst (Stands queues Ack (Word generation ∷ Word sub ∷ Word token ∷ [])) (ok_is _ command t.2) (refl, (s.1.1, g.1.1, s.1.2, t.1.1, cc (g.1.0, s.1.0, t.1.0)))
+words_found queues Purge (queue ∷ generation ∷ keep ∷ []) command e =
+    let q = read_ok (queue_found queues) queue _ command e in
+    let g = read_ok (number_found (2 ^ 64)) generation _ command q.2 in
+    let k = read_ok (number_found (2 ^ 32)) keep _ command g.2 in
+    subst (Stands queues Purge (Word queue ∷ Word generation ∷ Word keep ∷ [])) (ok_is _ command k.2) (refl, (q.1.1, g.1.1, k.1.1, cc (q.1.0, g.1.0, k.1.0)))
+words_found queues Move (queue ∷ silo ∷ []) command e =
+    let q = read_ok (queue_found queues) queue _ command e in
+    let s = read_ok (number_found MOST_SILOS) silo _ command q.2 in
+    subst (Stands queues Move (Word queue ∷ Word silo ∷ [])) (ok_is _ command s.2) (refl, (q.1.1, s.1.1, cc (q.1.0, s.1.0)))
+words_found queues Begin (queue ∷ grain ∷ []) command e =
+    let q = read_ok (queue_found queues) queue _ command e in
+    let g = read_ok grain_found grain _ command q.2 in
+    subst (Stands queues Begin (Word queue ∷ Word grain ∷ [])) (ok_is _ command g.2) (refl, (q.1.1, g.1.1, omega arith, inl (cc (q.1.0, g.1.0), refl)))
+words_found queues Begin (queue ∷ grain ∷ most ∷ []) command e =
+    let q = read_ok (queue_found queues) queue _ command e in
+    let g = read_ok grain_found grain _ command q.2 in
+    let m = read_ok (number_found (2 ^ 32)) most _ command g.2 in
+    subst (Stands queues Begin (Word queue ∷ Word grain ∷ Word most ∷ [])) (ok_is _ command m.2) (refl, (q.1.1, g.1.1, m.1.1, inr (cc (q.1.0, g.1.0, m.1.0))))
+words_found queues Commit (queue ∷ grain ∷ activation ∷ turn ∷ note ∷ []) command e =
+    let q = read_ok (queue_found queues) queue _ command e in
+    let g = read_ok grain_found grain _ command q.2 in
+    let a = read_ok (number_found (2 ^ 64)) activation _ command g.2 in
+    let t = read_ok (number_found (2 ^ 64)) turn _ command a.2 in
+    let n = read_ok (number_found (2 ^ 64)) note _ command t.2 in
+    subst (Stands queues Commit (Word queue ∷ Word grain ∷ Word activation ∷ Word turn ∷ Word note ∷ [])) (ok_is _ command n.2) (refl, (q.1.1, g.1.1, a.1.1, t.1.1, n.1.1, cc (q.1.0, g.1.0, a.1.0, t.1.0, n.1.0)))
+words_found queues Deactivate (queue ∷ grain ∷ []) command e =
+    let q = read_ok (queue_found queues) queue _ command e in
+    let g = read_ok grain_found grain _ command q.2 in
+    subst (Stands queues Deactivate (Word queue ∷ Word grain ∷ [])) (ok_is _ command g.2) (refl, (q.1.1, g.1.1, cc (q.1.0, g.1.0)))
+words_found queues Ready (queue ∷ []) command e =
+    let q = read_ok (queue_found queues) queue _ command e in
+    subst (Stands queues Ready (Word queue ∷ [])) (ok_is _ command q.2) (refl, (q.1.1, cc (q.1.0)))
+words_found queues Ready (queue ∷ grain ∷ []) command e =
+    let q = read_ok (queue_found queues) queue _ command e in
+    let g = read_ok grain_found grain _ command q.2 in
+    subst (Stands queues Ready (Word queue ∷ Word grain ∷ [])) (ok_is _ command g.2) (refl, (q.1.1, g.1.1, cc (q.1.0, g.1.0)))
+words_found queues Due (queue ∷ []) command e =
+    let q = read_ok (queue_found queues) queue _ command e in
+    subst (Stands queues Due (Word queue ∷ [])) (ok_is _ command q.2) (refl, (q.1.1, cc (q.1.0)))
+words_found queues Due (queue ∷ sub ∷ []) command e =
+    let q = read_ok (queue_found queues) queue _ command e in
+    let s = read_ok (own_sub_found queues q.0) sub _ command q.2 in
+    subst (Stands queues Due (Word queue ∷ Word sub ∷ [])) (ok_is _ command s.2) (refl, (q.1.1, s.1.1, cc (q.1.0, s.1.0)))
+words_found queues Quiet [] command e = subst (Stands queues Quiet []) (ok_is _ command e) (refl, refl)
+words_found queues Drain [] command e = subst (Stands queues Drain []) (ok_is _ command e) (refl, refl)
+words_found queues Report [] command e = subst (Stands queues Report []) (ok_is _ command e) (refl, refl)
+words_found queues Up (silo ∷ []) command e =
+    let s = read_ok (number_found MOST_SILOS) silo _ command e in
+    subst (Stands queues Up (Word silo ∷ [])) (ok_is _ command s.2) (refl, (s.1.1, cc (s.1.0)))
+words_found queues Down (silo ∷ []) command e =
+    let s = read_ok (number_found MOST_SILOS) silo _ command e in
+    subst (Stands queues Down (Word silo ∷ [])) (ok_is _ command s.2) (refl, (s.1.1, cc (s.1.0)))
+words_found queues _ _ command e = absurd cc
+
+worded : (queues : ℕ) (verb : Verb) (pieces : List Piece) (command : Command) → (words_of pieces >>= λ words. words_command verb queues words) ≡ Ok command → Stands queues verb pieces command
+worded queues verb pieces command e =
+    let a = bind_ok (words_of pieces) (λ words. words_command verb queues words) command e in
+    rw (read_all-found word_of Word word_found pieces a.0 a.1) (words_found queues verb a.0 command a.2)
 
 verb_command-found : (queues : ℕ) (verb : Verb) (pieces : List Piece) (command : Command) → verb_command verb queues pieces ≡ Ok command → Stands queues verb pieces command
 verb_command-found queues Pub pieces command e = pub_found queues pieces command e
-verb_command-found queues Sub pieces command e = worded queues Sub (sub_words queues) (sub_words-found queues) pieces command e
-verb_command-found queues Unsub pieces command e = worded queues Unsub (unsub_words queues) (unsub_words-found queues) pieces command e
-verb_command-found queues Rule pieces command e = worded queues Rule rule_words (rule_words-found queues) pieces command e
-verb_command-found queues Pull pieces command e = worded queues Pull (pull_words queues) (pull_words-found queues) pieces command e
-verb_command-found queues Deliver pieces command e = worded queues Deliver (deliver_words queues) (deliver_words-found queues) pieces command e
-verb_command-found queues Retry pieces command e = worded queues Retry (retry_words queues) (retry_words-found queues) pieces command e
-verb_command-found queues Ack pieces command e = worded queues Ack (ack_words queues) (ack_words-found queues) pieces command e
-verb_command-found queues Purge pieces command e = worded queues Purge (purge_words queues) (purge_words-found queues) pieces command e
-verb_command-found queues Move pieces command e = worded queues Move (move_words queues) (move_words-found queues) pieces command e
-verb_command-found queues Begin pieces command e = worded queues Begin (begin_words queues) (begin_words-found queues) pieces command e
-verb_command-found queues Commit pieces command e = worded queues Commit (commit_words queues) (commit_words-found queues) pieces command e
-verb_command-found queues Deactivate pieces command e = worded queues Deactivate (deactivate_words queues) (deactivate_words-found queues) pieces command e
-verb_command-found queues Ready pieces command e = worded queues Ready (ready_words queues) (ready_words-found queues) pieces command e
-verb_command-found queues Due pieces command e = worded queues Due (due_words queues) (due_words-found queues) pieces command e
-verb_command-found queues Quiet pieces command e = worded queues Quiet (alone (made.Each each.Quiet)) (quiet_found queues) pieces command e
-verb_command-found queues Drain pieces command e = worded queues Drain (alone made.Drain) (drain_found queues) pieces command e
-verb_command-found queues Report pieces command e = worded queues Report (alone made.Report) (report_found queues) pieces command e
-verb_command-found queues Up pieces command e = worded queues Up up_words (up_words-found queues) pieces command e
-verb_command-found queues Down pieces command e = worded queues Down down_words (down_words-found queues) pieces command e
+verb_command-found queues Sub pieces command e = worded queues Sub pieces command e
+verb_command-found queues verb pieces command e = worded queues verb pieces command e
 
 command_of-found : (m : Mode) (queues : ℕ) (pieces : List Piece) (command : Command) → command_of m queues pieces ≡ Ok command → MayStand m command × IsSpelled queues pieces command
 command_of-found m queues [] command e = absurd cc
 command_of-found m queues (piece ∷ pieces) command e =
-    let a = bind_ok (verb_in_front piece) (λ verb. guard (not_here m) (may_stand m verb) verb >>= λ standing. verb_command standing queues pieces) command e in
-    let b = bind_ok (guard (not_here m) (may_stand m a.0) a.0) (λ standing. verb_command standing queues pieces) command a.2 in
+    let a = bind_ok (verb_in_front piece) _ command e in
+    let b = bind_ok (guard (not_here m) (may_stand m a.0) a.0) _ command a.2 in
     let g = guard_ok (not_here m) (may_stand m a.0) a.0 b.0 b.1 in
-    let front : piece ≡ Word (verb_word b.0) = verb_in_front-found piece a.0 a.1 ∙ ap (λ (v : Verb). Word (verb_word v)) g.1 in
-    let may : may_stand m b.0 ≡ true = ap (may_stand m) (sym g.1) ∙ g.0 in
     let found = verb_command-found queues b.0 pieces command b.2 in
-    let There : Piece → Type 0 = λ p. MayStand m command × IsSpelled queues (p ∷ pieces) command in
-    subst There (sym front) (found.0 m may, found.1)
+    let front : piece ≡ Word (verb_word b.0) = verb_in_front-found piece a.0 a.1 ∙ ap (λ (v : Verb). Word (verb_word v)) g.1 in
+    let There : Piece → Type 0 = λ p. IsSpelled queues (p ∷ pieces) command in
+    (verb-may_stand m command (ap (may_stand m) (found.0 ∙ sym g.1) ∙ g.0), subst There (sym front) found.1)
 
 lexed-found : (m : Mode) (queues : ℕ) (found : Option (List Piece)) (command : Command) → lexed m queues found ≡ Ok command → (pieces : List Piece) × (found ≡ Some pieces) × (command_of m queues pieces ≡ Ok command)
 lexed-found m queues None command e = absurd cc

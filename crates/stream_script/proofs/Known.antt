@@ -1,8 +1,6 @@
 -- What calls one after another do to known bytes.
-use Rattle.std.proofs.Common.{◌≡◌, ℕ, List, ◌++◌, take, drop, Option, sym, ap, ◌∙◌, append_assoc}
-use Rattle.std.specs.Io.KnownBytes.{Appends}
-use Rattle.std.proofs.KnownBytes.{Appends-trans}
-use Rattle.std.proofs.lemmas.List.{take-append-drop}
+use Rattle.stream_script.proofs.Prelude.{◌≡◌, ◌++◌, take, drop, sym, ap, ◌∙◌, append_assoc, Appends-trans, take-append-drop, Appends}
+use Rattle.std.proofs.Common.{ℕ, List, Option}
 use Rattle.stream_script.specs.Transfers.{AppendsUpTo}
 
 -- a write took the front of the rest

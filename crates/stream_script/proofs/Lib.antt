@@ -1,6 +1,4 @@
-pub mod AgainForms
 pub mod AgainLemmas
-pub mod AgentFound
 pub mod BegunLemmas
 pub mod CutLemmas
 pub mod CuttingLaws
@@ -10,17 +8,12 @@ pub mod FieldLemmas
 pub mod FoundLemmas
 pub mod Known
 pub mod LineLemmas
-pub mod LookFound
-pub mod OtherAgain
 pub mod PieceLemmas
 pub mod PrintableLemmas
-pub mod ProducerAgain
-pub mod ProducerFound
 pub mod PublishingLemmas
 pub mod ReadLemmas
 pub mod ReportLemmas
 pub mod Running
-pub mod SiloFound
 pub mod SimulatorLemmas
 pub mod StandLemmas
 pub mod SubLemmas
@@ -28,4 +21,4 @@ pub mod Texts
 pub mod VerbLemmas
 pub mod Whole
 pub mod WithinLemmas
-pub mod WorkerFound
+pub mod Prelude

@@ -1,14 +1,13 @@
 -- The cutting gives just the pieces of which a line is made.
-use Rattle.std.specs.Prelude.{◌≡◌, ℕ, true, false, not, List, [], ◌∷◌, ◌++◌, Option, Some, None, refl}
-use Rattle.std.specs.List.{list_all}
-use Rattle.std.specs.Option.{option_map}
-use Rattle.std.proofs.Common.{sym, ap, ◌∙◌, subst, arith, inl, inr}
-use Rattle.std.proofs.lemmas.Bool.{cases_Bool, or_parts, or_left, or_from, eqb-true, and_parts, and_from, not-true, not_from_false}
+use Rattle.stream_script.proofs.Prelude.{length-append, sym, ap, ◌∙◌, arith, inl, inr, cases_Bool, or_parts, or_left, or_from, eqb-true, and_parts, and_from, not-true, append-nil, list_all, option_map, ℕ, true, false, not, List, [], ◌∷◌, Option, Some, None, refl}
+use Rattle.std.specs.Prelude.{◌≡◌, ◌++◌}
 use Rattle.std.proofs.lemmas.Iterator.Adapters.{option_map_id}
-use Rattle.std.proofs.lemmas.List.{append_assoc, append-nil}
+use Rattle.std.proofs.lemmas.List.{append_assoc}
 use Rattle.stream_script.specs.Pieces.{Piece, Word, Text, is_space, is_quote, is_backslash, ends_word, is_special, escaped, spelling, IsPiece, AreSpaces, ends_piece, IsLineOf}
 use Rattle.stream_script.specs.Lexer.{Place, Between, InWord, InText, InEscape, Closed, cut, pieces_of, begins_with}
-use Rattle.stream_script.proofs.PieceLemmas.{ahead, stops_at, cut-space, cut-in_word, cut-word_ended, cut-in_text, cut-escaped, cut-closed, ended_stops}
+use Rattle.stream_script.proofs.PieceLemmas.{ahead, stops_at, cut-space, cut-in_word, cut-word_ended, cut-word_quoted, cut-in_text, cut-quote, cut-escaped, cut-closed, ended_stops}
+use Rattle.stream_script.proofs.SubLemmas.{list_all-both}
+use Rattle.stream_script.proofs.Texts.{escaped-append}
 
 -- ---- what a line is made of is what the cutting gives
 
@@ -68,44 +67,30 @@ option_map_some : {A B : Type 0} (f : A → B) (o : Option A) (y : B) → option
 option_map_some f None y e = cc
 option_map_some f (Some x) y e = (x, refl, cc)
 
--- the rest of a word, and what follows it
-record IsWordRest (word line : List ℕ) (pieces : List Piece) : Type 0 where
-  tail : List ℕ
-  rest : List ℕ
-  later : List Piece
-  are : pieces ≡ Word (word ++ tail) ∷ later
-  line_is : line ≡ tail ++ rest
-  inside : list_all (λ byte. not (ends_word byte)) tail ≡ true
-  ends : ends_piece rest ≡ true
-  made : IsLineOf rest later
+-- what stands in the line of the piece that has begun
+abbrev held : Place → List ℕ
+held Between = []
+held (InWord word) = word
+held (InText text) = 34 ∷ escaped text
+held (InEscape text) = 34 ∷ escaped text ++ 92 ∷ []
+held (Closed text) = spelling (Text text)
 
--- the rest of a text, and what follows it
-record IsTextRest (text line : List ℕ) (pieces : List Piece) : Type 0 where
-  tail : List ℕ
-  rest : List ℕ
-  later : List Piece
-  are : pieces ≡ Text (text ++ tail) ∷ later
-  line_is : line ≡ escaped tail ++ 34 ∷ rest
-  ends : ends_piece rest ≡ true
-  made : IsLineOf rest later
-
--- what is left of a line at a place is made of these pieces, with the one that has begun in front
-abbrev IsRest : Place → List ℕ → List Piece → Type 0
-IsRest Between line pieces = IsLineOf line pieces
-IsRest (InWord word) line pieces = IsWordRest word line pieces
-IsRest (InText text) line pieces = IsTextRest text line pieces
-IsRest (InEscape text) line pieces =
-    (byte : ℕ) × (after : List ℕ) × (line ≡ byte ∷ after) × (is_special byte ≡ true) × IsTextRest (text ++ byte ∷ []) after pieces
-IsRest (Closed text) line pieces = (later : List Piece) × (pieces ≡ Text text ∷ later) × (ends_piece line ≡ true) × IsLineOf line later
+-- a word that has begun is a piece
+abbrev IsPlace : Place → Type 0
+IsPlace (InWord word) = IsPiece (Word word)
+IsPlace _ = Unit {0}
 
 abbrev Found : List ℕ → Type 0
-Found bytes = (place : Place) (pieces : List Piece) → cut place bytes ≡ Some pieces → IsRest place bytes pieces
+Found bytes = (place : Place) (pieces : List Piece) → IsPlace place → cut place bytes ≡ Some pieces → IsLineOf (held place ++ bytes) pieces
 
-escaped-special : (byte : ℕ) (tail rest : List ℕ) → is_special byte ≡ true → escaped (byte ∷ tail) ++ rest ≡ 92 ∷ byte ∷ (escaped tail ++ rest)
-escaped-special byte tail rest special = rw special refl
+-- one more byte of a text, in front of what follows
+escaped-more : (text : List ℕ) (byte : ℕ) (one bytes : List ℕ) → escaped (byte ∷ []) ≡ one → escaped (text ++ byte ∷ []) ++ bytes ≡ escaped text ++ (one ++ bytes)
+escaped-more text byte one bytes is =
+    ap (λ (l : List ℕ). l ++ bytes) (escaped-append text (byte ∷ []) ∙ ap (λ (l : List ℕ). escaped text ++ l) is) ∙ append_assoc (escaped text) one bytes
 
-escaped-plain : (byte : ℕ) (tail rest : List ℕ) → is_special byte ≡ false → escaped (byte ∷ tail) ++ rest ≡ byte ∷ (escaped tail ++ rest)
-escaped-plain byte tail rest plain = rw plain refl
+-- the cutting went on without a piece
+passed : (o : Option (List Piece)) (pieces : List Piece) → option_map (λ more. more) o ≡ Some pieces → o ≡ Some pieces
+passed o pieces e = sym (option_map_id o) ∙ e
 
 -- one more space in front
 spaced : (byte : ℕ) (line : List ℕ) (pieces : List Piece) → is_space byte ≡ true → IsLineOf line pieces → IsLineOf (byte ∷ line) pieces
@@ -113,172 +98,87 @@ spaced byte line [] space made = and_from (is_space byte) (list_all is_space lin
 spaced byte line (piece ∷ pieces) space made =
     (byte ∷ made.0, made.1, ap (λ (l : List ℕ). byte ∷ l) made.2, and_from (is_space byte) (list_all is_space made.0) space made.3, made.4, made.5, made.6)
 
-found-between : (byte : ℕ) (bytes : List ℕ) (pieces : List Piece) → Found bytes → cut Between (byte ∷ bytes) ≡ Some pieces → IsLineOf (byte ∷ bytes) pieces
-found-between byte bytes pieces found e =
+-- one more piece in front
+pieced : (piece : Piece) (rest : List ℕ) (pieces : List Piece) → IsPiece piece → ends_piece rest ≡ true → ((more : List Piece) → cut Between rest ≡ Some more → IsLineOf rest more) → ahead piece (cut Between rest) ≡ Some pieces → IsLineOf (spelling piece ++ rest) pieces
+pieced piece rest pieces is ends found e =
+    let more = option_map_some (λ more. piece ∷ more) (cut Between rest) pieces e in
+    rw (← more.2) ([], rest, refl, refl, is, ends, found more.0 more.1)
+
+found-end : (pieces : List Piece) → cut Between [] ≡ Some pieces → IsLineOf [] pieces
+found-end [] e = refl
+found-end (piece ∷ pieces) e = absurd cc
+
+found-between : (byte : ℕ) (bytes : List ℕ) → Found bytes → (pieces : List Piece) → cut Between (byte ∷ bytes) ≡ Some pieces → IsLineOf (byte ∷ bytes) pieces
+found-between byte bytes found pieces e =
     elim (cases_Bool (is_space byte)) [
-      | inl space ↦
-          let e : option_map (λ more. more) (cut Between bytes) ≡ Some pieces = rw space at e in
-          spaced byte bytes pieces space (found Between pieces (sym (option_map_id (cut Between bytes)) ∙ e))
+      | inl space ↦ spaced byte bytes pieces space (found Between pieces tt (sym (cut-space byte bytes (eqb-true byte 32 space)) ∙ e))
       | inr no_space ↦ elim (cases_Bool (is_quote byte)) [
-        | inl quote ↦
-            let e : option_map (λ more. more) (cut (InText []) bytes) ≡ Some pieces = rw (no_space, quote) at e in
-            let rest = found (InText []) pieces (sym (option_map_id (cut (InText []) bytes)) ∙ e) in
-            let line_is : byte ∷ bytes ≡ spelling (Text rest.tail) ++ rest.rest = ap (λ (b : ℕ). b ∷ bytes) (eqb-true byte 34 quote) ∙ ap (λ (l : List ℕ). 34 ∷ l) (rest.line_is ∙ sym (append_assoc (escaped rest.tail) (34 ∷ []) rest.rest)) in
-            let Made : List Piece → Type 0 = λ ps. IsLineOf (byte ∷ bytes) ps in
-            subst Made (sym rest.are) ([], rest.rest, line_is, refl, tt, rest.ends, rest.made)
-        | inr no_quote ↦
-            let e : option_map (λ more. more) (cut (InWord (byte ∷ [])) bytes) ≡ Some pieces = rw (no_space, no_quote) at e in
-            let rest = found (InWord (byte ∷ [])) pieces (sym (option_map_id (cut (InWord (byte ∷ [])) bytes)) ∙ e) in
-            let line_is : byte ∷ bytes ≡ spelling (Word (byte ∷ rest.tail)) ++ rest.rest = ap (λ (l : List ℕ). byte ∷ l) rest.line_is in
-            let outside : not (ends_word byte) ≡ true = not_from_false (ends_word byte) (or_from (is_space byte) (is_quote byte) no_space no_quote) in
-            let Made : List Piece → Type 0 = λ ps. IsLineOf (byte ∷ bytes) ps in
-            subst Made (sym rest.are) ([], rest.rest, line_is, refl, (omega arith, and_from (not (ends_word byte)) (list_all (λ b. not (ends_word b)) rest.tail) outside rest.inside), rest.ends, rest.made)
+        | inl quote ↦ rw (eqb-true byte 34 quote) (found (InText []) pieces tt (passed (cut (InText []) bytes) pieces (rw (no_space, quote) at e)))
+        | inr no_quote ↦ found (InWord (byte ∷ [])) pieces (omega arith, rw (no_space, no_quote) refl) (passed (cut (InWord (byte ∷ [])) bytes) pieces (rw (no_space, no_quote) at e))
       ]
     ]
 
-found-word : (word : List ℕ) (byte : ℕ) (bytes : List ℕ) (pieces : List Piece) → Found bytes → cut (InWord word) (byte ∷ bytes) ≡ Some pieces → IsWordRest word (byte ∷ bytes) pieces
-found-word word byte bytes pieces found e =
+found-word : (word : List ℕ) (byte : ℕ) (bytes : List ℕ) → Found bytes → (pieces : List Piece) → IsPiece (Word word) → cut (InWord word) (byte ∷ bytes) ≡ Some pieces → IsLineOf (word ++ byte ∷ bytes) pieces
+found-word word byte bytes found pieces is e =
     elim (cases_Bool (is_space byte)) [
       | inl space ↦
-          let e : option_map (λ more. Word word ∷ more) (cut Between bytes) ≡ Some pieces = rw space at e in
-          let more = option_map_some (λ more. Word word ∷ more) (cut Between bytes) pieces e in
-          record {
-            tail = [];
-            rest = byte ∷ bytes;
-            later = more.0;
-            are = sym more.2 ∙ ap (λ (w : List ℕ). Word w ∷ more.0) (sym (append-nil word));
-            line_is = refl;
-            inside = refl;
-            ends = space;
-            made = spaced byte bytes more.0 space (found Between more.0 more.1);
-          }
+          let stops = ended_word (byte ∷ bytes) space in
+          pieced (Word word) (byte ∷ bytes) pieces is space (found-between byte bytes found) (sym (cut-word_ended word (byte ∷ bytes) stops.0 stops.1) ∙ e)
       | inr no_space ↦ elim (cases_Bool (is_quote byte)) [
         | inl quote ↦
-            let e : ◌≡◌ {A = Option (List Piece)} None (Some pieces) = rw (no_space, quote) at e in
-            cc
+            let none : ◌≡◌ {A = Option (List Piece)} None (Some pieces) = sym (cut-word_quoted word (byte ∷ bytes) quote) ∙ e in
+            absurd cc
         | inr no_quote ↦
-            let e : option_map (λ more. more) (cut (InWord (word ++ byte ∷ [])) bytes) ≡ Some pieces = rw (no_space, no_quote) at e in
-            let rest = found (InWord (word ++ byte ∷ [])) pieces (sym (option_map_id (cut (InWord (word ++ byte ∷ [])) bytes)) ∙ e) in
-            let outside : not (ends_word byte) ≡ true = not_from_false (ends_word byte) (or_from (is_space byte) (is_quote byte) no_space no_quote) in
-            record {
-              tail = byte ∷ rest.tail;
-              rest = rest.rest;
-              later = rest.later;
-              are = rest.are ∙ ap (λ (w : List ℕ). Word w ∷ rest.later) (append_assoc word (byte ∷ []) rest.tail);
-              line_is = ap (λ (l : List ℕ). byte ∷ l) rest.line_is;
-              inside = and_from (not (ends_word byte)) (list_all (λ b. not (ends_word b)) rest.tail) outside rest.inside;
-              ends = rest.ends;
-              made = rest.made;
-            }
+            let inside : ends_word byte ≡ false = or_from (is_space byte) (is_quote byte) no_space no_quote in
+            let all = list_all-both (λ b. not (ends_word b)) word (byte ∷ []) is.1 (rw inside refl) in
+            rw (append_assoc word (byte ∷ []) bytes) at (found (InWord (word ++ byte ∷ [])) pieces (omega (arith, length-append word (byte ∷ []), is.0), all) (sym (cut-in_word word byte bytes inside) ∙ e))
       ]
     ]
 
-found-text : (text : List ℕ) (byte : ℕ) (bytes : List ℕ) (pieces : List Piece) → Found bytes → cut (InText text) (byte ∷ bytes) ≡ Some pieces → IsTextRest text (byte ∷ bytes) pieces
-found-text text byte bytes pieces found e =
+found-text : (text : List ℕ) (byte : ℕ) (bytes : List ℕ) → Found bytes → (pieces : List Piece) → cut (InText text) (byte ∷ bytes) ≡ Some pieces → IsLineOf (34 ∷ escaped text ++ byte ∷ bytes) pieces
+found-text text byte bytes found pieces e =
     elim (cases_Bool (is_quote byte)) [
-      | inl quote ↦
-          let e : option_map (λ more. more) (cut (Closed text) bytes) ≡ Some pieces = rw quote at e in
-          let rest = found (Closed text) pieces (sym (option_map_id (cut (Closed text) bytes)) ∙ e) in
-          record {
-            tail = [];
-            rest = bytes;
-            later = rest.0;
-            are = rest.1 ∙ ap (λ (t : List ℕ). Text t ∷ rest.0) (sym (append-nil text));
-            line_is = ap (λ (b : ℕ). b ∷ bytes) (eqb-true byte 34 quote);
-            ends = rest.2;
-            made = rest.3;
-          }
+      | inl quote ↦ rw (eqb-true byte 34 quote) (rw (append_assoc (escaped text) (34 ∷ []) bytes) at (found (Closed text) pieces tt (sym (cut-quote text (byte ∷ bytes) quote) ∙ e)))
       | inr no_quote ↦ elim (cases_Bool (is_backslash byte)) [
-        | inl back ↦
-            let e : option_map (λ more. more) (cut (InEscape text) bytes) ≡ Some pieces = rw (no_quote, back) at e in
-            let escape = found (InEscape text) pieces (sym (option_map_id (cut (InEscape text) bytes)) ∙ e) in
-            let rest = escape.4 in
-            record {
-              tail = escape.0 ∷ rest.tail;
-              rest = rest.rest;
-              later = rest.later;
-              are = rest.are ∙ ap (λ (t : List ℕ). Text t ∷ rest.later) (append_assoc text (escape.0 ∷ []) rest.tail);
-              line_is =
-                  ap (λ (b : ℕ). b ∷ bytes) (eqb-true byte 92 back)
-                  ∙ (ap (λ (l : List ℕ). 92 ∷ l) (escape.2 ∙ ap (λ (l : List ℕ). escape.0 ∷ l) rest.line_is)
-                  ∙ sym (escaped-special escape.0 rest.tail (34 ∷ rest.rest) escape.3));
-              ends = rest.ends;
-              made = rest.made;
-            }
+        | inl back ↦ rw (eqb-true byte 92 back) (rw (append_assoc (escaped text) (92 ∷ []) bytes) at (found (InEscape text) pieces tt (passed (cut (InEscape text) bytes) pieces (rw (no_quote, back) at e))))
         | inr no_back ↦
-            let e : option_map (λ more. more) (cut (InText (text ++ byte ∷ [])) bytes) ≡ Some pieces = rw (no_quote, no_back) at e in
-            let rest = found (InText (text ++ byte ∷ [])) pieces (sym (option_map_id (cut (InText (text ++ byte ∷ [])) bytes)) ∙ e) in
             let plain : is_special byte ≡ false = or_from (is_quote byte) (is_backslash byte) no_quote no_back in
-            record {
-              tail = byte ∷ rest.tail;
-              rest = rest.rest;
-              later = rest.later;
-              are = rest.are ∙ ap (λ (t : List ℕ). Text t ∷ rest.later) (append_assoc text (byte ∷ []) rest.tail);
-              line_is = ap (λ (l : List ℕ). byte ∷ l) rest.line_is ∙ sym (escaped-plain byte rest.tail (34 ∷ rest.rest) plain);
-              ends = rest.ends;
-              made = rest.made;
-            }
+            rw (escaped-more text byte (byte ∷ []) bytes (rw plain refl)) at (found (InText (text ++ byte ∷ [])) pieces tt (sym (cut-in_text text byte bytes plain) ∙ e))
       ]
     ]
 
-found-escape : (text : List ℕ) (byte : ℕ) (bytes : List ℕ) (pieces : List Piece) → Found bytes → cut (InEscape text) (byte ∷ bytes) ≡ Some pieces → IsRest (InEscape text) (byte ∷ bytes) pieces
-found-escape text byte bytes pieces found e =
+found-escape : (text : List ℕ) (byte : ℕ) (bytes : List ℕ) → Found bytes → (pieces : List Piece) → cut (InEscape text) (byte ∷ bytes) ≡ Some pieces → IsLineOf (34 ∷ (escaped text ++ 92 ∷ []) ++ byte ∷ bytes) pieces
+found-escape text byte bytes found pieces e =
     elim (cases_Bool (is_special byte)) [
       | inl special ↦
-          let e : option_map (λ more. more) (cut (InText (text ++ byte ∷ [])) bytes) ≡ Some pieces = rw special at e in
-          (byte, bytes, refl, special, found (InText (text ++ byte ∷ [])) pieces (sym (option_map_id (cut (InText (text ++ byte ∷ [])) bytes)) ∙ e))
+          let next = found (InText (text ++ byte ∷ [])) pieces tt (passed (cut (InText (text ++ byte ∷ [])) bytes) pieces (rw special at e)) in
+          rw (append_assoc (escaped text) (92 ∷ []) (byte ∷ bytes)) (rw (escaped-more text byte (92 ∷ byte ∷ []) bytes (rw special refl)) at next)
       | inr plain ↦
-          let e : ◌≡◌ {A = Option (List Piece)} None (Some pieces) = rw plain at e in
-          cc
+          let none : ◌≡◌ {A = Option (List Piece)} None (Some pieces) = rw plain at e in
+          absurd cc
     ]
 
-found-closed : (text : List ℕ) (byte : ℕ) (bytes : List ℕ) (pieces : List Piece) → Found bytes → cut (Closed text) (byte ∷ bytes) ≡ Some pieces → IsRest (Closed text) (byte ∷ bytes) pieces
-found-closed text byte bytes pieces found e =
+found-closed : (text : List ℕ) (byte : ℕ) (bytes : List ℕ) → Found bytes → (pieces : List Piece) → cut (Closed text) (byte ∷ bytes) ≡ Some pieces → IsLineOf (spelling (Text text) ++ byte ∷ bytes) pieces
+found-closed text byte bytes found pieces e =
     elim (cases_Bool (is_space byte)) [
-      | inl space ↦
-          let e : option_map (λ more. Text text ∷ more) (cut Between bytes) ≡ Some pieces = rw space at e in
-          let more = option_map_some (λ more. Text text ∷ more) (cut Between bytes) pieces e in
-          (more.0, sym more.2, space, spaced byte bytes more.0 space (found Between more.0 more.1))
+      | inl space ↦ pieced (Text text) (byte ∷ bytes) pieces tt space (found-between byte bytes found) (sym (cut-closed text (byte ∷ bytes) space) ∙ e)
       | inr no_space ↦
-          let e : ◌≡◌ {A = Option (List Piece)} None (Some pieces) = rw no_space at e in
-          cc
+          let none : ◌≡◌ {A = Option (List Piece)} None (Some pieces) = rw no_space at e in
+          absurd cc
     ]
 
-found-end : (place : Place) (pieces : List Piece) → cut place [] ≡ Some pieces → IsRest place [] pieces
-found-end Between pieces e =
-    let Made : List Piece → Type 0 = λ ps. IsLineOf [] ps in
-    let are : [] ≡ pieces = cc in
-    subst Made are refl
-found-end (InWord word) pieces e =
-    let are : pieces ≡ Word word ∷ [] = cc in
-    record {
-      tail = [];
-      rest = [];
-      later = [];
-      are = are ∙ ap (λ (w : List ℕ). Word w ∷ []) (sym (append-nil word));
-      line_is = refl;
-      inside = refl;
-      ends = refl;
-      made = refl;
-    }
-found-end (InText text) pieces e = cc
-found-end (InEscape text) pieces e = cc
-found-end (Closed text) pieces e =
-    let are : pieces ≡ Text text ∷ [] = cc in
-    ([], are, refl, refl)
-
-found-byte : (byte : ℕ) (bytes : List ℕ) → Found bytes → Found (byte ∷ bytes)
-found-byte byte bytes found Between pieces e = found-between byte bytes pieces found e
-found-byte byte bytes found (InWord word) pieces e = found-word word byte bytes pieces found e
-found-byte byte bytes found (InText text) pieces e = found-text text byte bytes pieces found e
-found-byte byte bytes found (InEscape text) pieces e = found-escape text byte bytes pieces found e
-found-byte byte bytes found (Closed text) pieces e = found-closed text byte bytes pieces found e
-
-cut_found : (bytes : List ℕ) → Found bytes
-cut_found [] = found-end
-cut_found (byte ∷ bytes) = found-byte byte bytes (cut_found bytes)
+cut_found : (bytes : List ℕ) (place : Place) (pieces : List Piece) → IsPlace place → cut place bytes ≡ Some pieces → IsLineOf (held place ++ bytes) pieces
+cut_found [] Between pieces is e = found-end pieces e
+cut_found [] (InWord word) pieces is e = pieced (Word word) [] pieces is refl found-end e
+cut_found [] (Closed text) pieces is e = pieced (Text text) [] pieces tt refl found-end e
+cut_found [] _ pieces is e = absurd cc
+cut_found (byte ∷ bytes) Between pieces is e = found-between byte bytes (cut_found bytes) pieces e
+cut_found (byte ∷ bytes) (InWord word) pieces is e = found-word word byte bytes (cut_found bytes) pieces is e
+cut_found (byte ∷ bytes) (InText text) pieces is e = found-text text byte bytes (cut_found bytes) pieces e
+cut_found (byte ∷ bytes) (InEscape text) pieces is e = found-escape text byte bytes (cut_found bytes) pieces e
+cut_found (byte ∷ bytes) (Closed text) pieces is e = found-closed text byte bytes (cut_found bytes) pieces e
 
 -- a line is made of the pieces that it is cut into
 pub line-pieces_of : (line : List ℕ) (pieces : List Piece) → pieces_of line ≡ Some pieces → IsLineOf line pieces
 unfolding pieces_of
-line-pieces_of line pieces e = cut_found line Between pieces e
+line-pieces_of line pieces e = cut_found line Between pieces tt e

@@ -1,22 +1,14 @@
 -- Each byte of a line of a command is printable.
-use Rattle.std.specs.Prelude.{◌≡◌, ℕ, ◌^◌, ◌<◌, true, List, [], ◌∷◌, ◌++◌, map, refl}
+use Rattle.stream_script.proofs.Prelude.{sym, subst, arith, inl, inr, cases_Bool, and_parts, and_from, eqb-true, nat_tests, decimal, list_all, AllByRecursion, ℕ, ◌^◌, true, List, [], ◌∷◌, refl, is_name_byte, IsPayload, is_printable, token_text, IsToken, GrainId, StreamId}
+use Rattle.std.specs.Prelude.{◌≡◌, ◌<◌, ◌++◌, map}
 use Rattle.std.specs.Char.{is_ascii_digit}
-use Rattle.std.specs.Fmt.{decimal}
-use Rattle.std.specs.List.{list_all, AllByRecursion}
-use Rattle.std.proofs.Common.{sym, subst, arith, inl, inr}
-use Rattle.std.proofs.lemmas.Bool.{cases_Bool, and_parts, and_from, eqb-true}
-use Rattle.std.proofs.lemmas.Bool.Decides.{nat_tests}
-use Rattle.stream_ident.specs.declared.ident.GrainId.{GrainId}
-use Rattle.stream_ident.specs.declared.ident.StreamId.{StreamId}
 use Rattle.stream_ident.specs.declared.ident.SubName.{SubName}
 use Rattle.stream_ident.specs.declared.token.Token.{Token}
-use Rattle.stream_ident.specs.Token.{token_text, IsToken}
-use Rattle.stream_ident.specs.Alphabet.{is_name_byte, IsPayload, is_printable}
 use Rattle.stream_script.specs.declared.parser.command.Verb.{Verb}
 use Rattle.stream_script.specs.Pieces.{Piece, Word, Text, is_space, is_special, escaped, spelling, IsLineOf}
 use Rattle.stream_script.specs.Spelling.{stream_text, grain_text, sub_text}
 use Rattle.stream_script.specs.Grammar.{IsStream, IsGrain, IsSub, IsQueue}
-use Rattle.stream_script.specs.declared.parser.command.Verb.TheVariants.{Pub, Sub, Unsub, Rule, Pull, Deliver, Retry, Ack, Purge, Move, Begin, Commit, Deactivate, Ready, Due, Quiet, Drain, Report, Up, Down}
+use Rattle.stream_script.specs.declared.parser.command.Verb.TheVariants.{Pub}
 use Rattle.stream_script.proofs.FieldLemmas.{list_all-weaker}
 use Rattle.stream_script.proofs.SubLemmas.{list_all-both, decimal_all, stream_text_all, grain_text_all, name_text_all}
 use Rattle.stream_script.proofs.VerbLemmas.{verb_word}
@@ -69,9 +61,12 @@ pub token_printable : (token : Token) → IsToken token → IsPrintable (Word (t
 token_printable token is =
     list_all-both is_printable (decimal token.seq) (46 ∷ decimal token.idx) (number_printable token.seq is.seq) (number_printable token.idx (omega (arith, is.idx)))
 
+pub queue_printable : (queues queue : ℕ) → IsQueue queues queue → IsPrintable (Word (decimal queue))
+queue_printable queues queue is = number_printable queue (omega (arith, is.1))
+
 pub sub_printable : (queues queue : ℕ) (sub : SubName) → IsQueue queues queue → IsSub sub → IsPrintable (Word (sub_text queue sub))
 sub_printable queues queue sub is_queue is_sub =
-    list_all-both is_printable (decimal queue) (58 ∷ _) (number_printable queue (omega (arith, is_queue.1))) (name_text_all is_printable name_printable digit_printable refl refl sub is_sub)
+    list_all-both is_printable (decimal queue) (58 ∷ _) (queue_printable queues queue is_queue) (name_text_all is_printable name_printable digit_printable refl refl sub is_sub)
 
 pub payloads_printable : (payloads : List (List ℕ)) → AllByRecursion IsPayload payloads → AllByRecursion IsPrintable (map Text payloads)
 payloads_printable [] are = tt
@@ -79,22 +74,4 @@ payloads_printable (payload ∷ payloads) are = (are.0.good, payloads_printable 
 
 pub word_printable : (verb : Verb) → IsPrintable (Word (verb_word verb))
 word_printable Pub = refl
-word_printable Sub = refl
-word_printable Unsub = refl
-word_printable Rule = refl
-word_printable Pull = refl
-word_printable Deliver = refl
-word_printable Retry = refl
-word_printable Ack = refl
-word_printable Purge = refl
-word_printable Move = refl
-word_printable Begin = refl
-word_printable Commit = refl
-word_printable Deactivate = refl
-word_printable Ready = refl
-word_printable Due = refl
-word_printable Quiet = refl
-word_printable Drain = refl
-word_printable Report = refl
-word_printable Up = refl
-word_printable Down = refl
+word_printable _ = refl

@@ -1,9 +1,6 @@
 -- A line `pub STREAM TEXT ..` reads as the publish of its texts.
-use Rattle.std.specs.Prelude.{◌≡◌, ℕ, List, ◌∷◌, map, codes, Some, Ok, refl}
-use Rattle.std.specs.List.{AllByRecursion}
-use Rattle.std.proofs.Common.{ap, ◌∙◌}
-use Rattle.stream_ident.specs.Alphabet.{IsPayload}
-use Rattle.stream_ident.specs.declared.ident.StreamId.{StreamId}
+use Rattle.stream_script.proofs.Prelude.{ap, ◌∙◌, AllByRecursion, ℕ, List, ◌∷◌, Some, Ok, refl, IsPayload, StreamId}
+use Rattle.std.specs.Prelude.{◌≡◌, map, codes}
 use Rattle.stream_model.specs.declared.op.Op.TheVariants as op
 use Rattle.stream_script.specs.declared.parser.command.Command.TheVariants.{Step}
 use Rattle.stream_script.specs.declared.parser.command.Mode.{Mode}

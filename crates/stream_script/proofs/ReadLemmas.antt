@@ -1,10 +1,7 @@
 -- A loop that reads each element of a list.
-use Rattle.std.specs.Prelude.{◌≡◌, ℕ, ◌+◌, ◌<◌, ◌≤◌, List, [], ◌∷◌, ◌++◌, length, drop, map, Result, Ok, Err, refl}
-use Rattle.std.specs.Result.{IsErr, IsErrAnd}
-use Rattle.std.proofs.Common.{sym, ap, ◌∙◌, subst, append_assoc, get_or}
-use Rattle.std.proofs.lemmas.List.{append-nil, drop_all}
+use Rattle.stream_script.proofs.Prelude.{sym, ap, ◌∙◌, subst, append_assoc, get_or, append-nil, drop_all, ℕ, List, [], ◌∷◌, Ok, refl, IsErr, IsErrAnd, ◌>>=◌}
+use Rattle.std.specs.Prelude.{◌≡◌, ◌+◌, ◌<◌, ◌≤◌, ◌++◌, length, drop, map, Result, Err}
 use Rattle.stream_ident.proofs.WordLemmas.{drop-read}
-use Rattle.stream_ident.specs.Name.{◌>>=◌}
 use Rattle.stream_script.specs.declared.parser.command.FaultKind.{FaultKind}
 use Rattle.stream_script.specs.declared.parser.command.LineError.{LineError}
 use Rattle.stream_script.specs.declared.parser.command.LineError.TheVariants as errors

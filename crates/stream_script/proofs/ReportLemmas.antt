@@ -1,9 +1,7 @@
 -- The report, queue by queue.
-use Rattle.std.proofs.Common.{◌≡◌, ℕ, suc, ◌+◌, ◌<◌, ◌≤◌, List, [], ◌∷◌, ◌++◌, length, get_or, drop, Result, Ok, Err, sym, ap, ◌∙◌, subst, append_assoc, add-one, drop-cons}
+use Rattle.stream_script.proofs.Prelude.{◌≡◌, suc, ◌+◌, ◌<◌, ◌≤◌, ◌++◌, length, get_or, drop, Result, Err, sym, ap, ◌∙◌, subst, append_assoc, add-one, drop-cons, append-nil, drop_all, IsErr, PlainPartition}
+use Rattle.std.proofs.Common.{ℕ, List, [], ◌∷◌, Ok}
 use Rattle.std.specs.Io.{StartsWith}
-use Rattle.std.specs.Result.{IsErr}
-use Rattle.std.proofs.lemmas.List.{append-nil, drop_all}
-use Rattle.stream_model.specs.declared.plain.PlainPartition.{PlainPartition}
 use Rattle.stream_script.specs.Report.{queue_report, report_from, report_of}
 use Rattle.stream_script.specs.Writing.{Writes}
 use Rattle.stream_script.proofs.Texts.{starts_with_front}

@@ -1,8 +1,6 @@
 -- Lines done one after another: what was written, and then what the rest writes, is what all write.
-use Rattle.std.proofs.Common.{◌≡◌, ℕ, suc, ◌+◌, List, [], ◌∷◌, ◌++◌, Option, None, Some, Result, Ok, refl, sym, ap, ◌∙◌, append_assoc, add-one}
-use Rattle.std.specs.Io.KnownBytes.{Appends}
-use Rattle.std.proofs.KnownBytes.{Appends-nil, Appends-trans}
-use Rattle.stream_model.specs.declared.plain.PlainPartition.{PlainPartition}
+use Rattle.stream_script.proofs.Prelude.{◌≡◌, suc, ◌+◌, ◌++◌, Result, sym, ap, ◌∙◌, append_assoc, add-one, Appends-nil, Appends-trans, Appends, PlainPartition}
+use Rattle.std.proofs.Common.{ℕ, List, [], ◌∷◌, Option, None, Some, Ok, refl}
 use Rattle.stream_script.specs.declared.parser.command.Fault.{Fault}
 use Rattle.stream_script.specs.declared.simulate.SimConfig.{SimConfig}
 use Rattle.stream_script.specs.Simulation.{Outcome, with_text, and_then, run_line, run_lines, RunsLine}

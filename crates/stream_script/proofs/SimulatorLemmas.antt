@@ -1,9 +1,7 @@
 -- A line on the partitions.
-use Rattle.std.proofs.Common.{◌≡◌, ℕ, ◌+◌, ◌<◌, List, ◌++◌, length, get_or, set, take, drop, Result, Ok, Err, refl, ap, ◌∙◌}
-use Rattle.std.specs.Prelude.{OnOk}
-use Rattle.std.proofs.lemmas.List.{get_or_read}
+use Rattle.stream_script.proofs.Prelude.{◌≡◌, ◌+◌, ◌<◌, ◌++◌, length, get_or, set, take, drop, Result, Err, ap, ◌∙◌, get_or_read, OnOk, PlainPartition}
+use Rattle.std.proofs.Common.{ℕ, List, Ok, refl}
 use Rattle.stream_model.specs.declared.op.Op.{Op}
-use Rattle.stream_model.specs.declared.plain.PlainPartition.{PlainPartition}
 use Rattle.stream_model.specs.Replies.{Reply}
 use Rattle.stream_model.specs.Step.{step}
 use Rattle.stream_script.specs.Replies.{reply_line}

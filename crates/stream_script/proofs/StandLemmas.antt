@@ -1,49 +1,21 @@
--- The pieces behind a verb that are read as a command: they are the command's, and it may stand.
-use Rattle.std.specs.Prelude.{◌≡◌, ℕ, true, false, List, [], ◌∷◌, map, Result, Ok}
-use Rattle.std.specs.List.{AllByRecursion}
-use Rattle.std.proofs.Common.{sym, ap, ◌∙◌, subst}
-use Rattle.stream_ident.specs.Alphabet.{IsPayload}
-use Rattle.stream_ident.specs.Name.{◌>>=◌}
+-- The pieces behind a verb that are read as a command are the command's.
+use Rattle.stream_script.proofs.Prelude.{ap, ◌∙◌, subst, AllByRecursion, ℕ, List, [], ◌∷◌, Ok, IsPayload, ◌>>=◌}
+use Rattle.std.specs.Prelude.{◌≡◌, map, Result}
 use Rattle.stream_script.specs.declared.parser.command.Command.{Command}
 use Rattle.stream_script.specs.declared.parser.command.FaultKind.{FaultKind}
-use Rattle.stream_script.specs.declared.parser.command.Mode.{Mode}
-use Rattle.stream_script.specs.declared.parser.command.Mode.TheVariants as mode
 use Rattle.stream_script.specs.declared.parser.command.Verb.{Verb}
 use Rattle.stream_script.specs.Fields.{payload_field}
-use Rattle.stream_script.specs.Forms.{read_all, word_of, text_of, words_of, payloads_of}
-use Rattle.stream_script.specs.Grammar.{IsSpelled, MayStand}
+use Rattle.stream_script.specs.Forms.{read_all, word_of, text_of, payloads_of}
+use Rattle.stream_script.specs.Grammar.{IsSpelled}
 use Rattle.stream_script.specs.Pieces.{Piece, Word, Text}
-use Rattle.stream_script.specs.Verbs.{may_sim, may_run, may_stand}
 use Rattle.stream_script.proofs.FieldLemmas.{bind_ok, ok_is, payload_found}
-use Rattle.stream_script.proofs.VerbLemmas.{verb_word}
+use Rattle.stream_script.proofs.VerbLemmas.{verb_word, verb_for}
 
-abbrev pub MayStandAs : Verb → Command → Type 0
-MayStandAs verb command = (m : Mode) → may_stand m verb ≡ true → MayStand m command
-
--- a command has these pieces behind its verb's word, and may stand
+-- a command of this verb, whose word stands in front of these pieces
 abbrev pub Stands : ℕ → Verb → List Piece → Command → Type 0
-Stands queues verb pieces command = MayStandAs verb command × IsSpelled queues (Word (verb_word verb) ∷ pieces) command
-
--- a command of this verb doesn't stand in a script that is run
-pub not_run : (verb : Verb) (command : Command) → may_run verb ≡ false → MayStand mode.Sim command → MayStandAs verb command
-not_run verb command never in_sim mode.Sim may = in_sim
-not_run verb command never in_sim mode.Run may = absurd cc
-
--- a command of this verb doesn't stand in a script that is simulated
-pub not_sim : (verb : Verb) (command : Command) → may_sim verb ≡ false → MayStand mode.Run command → MayStandAs verb command
-not_sim verb command never in_run mode.Sim may = absurd cc
-not_sim verb command never in_run mode.Run may = in_run
-
--- a command that may stand in scripts of both kinds
-pub may_anywhere : (verb : Verb) (command : Command) → MayStand mode.Sim command → MayStand mode.Run command → MayStandAs verb command
-may_anywhere verb command in_sim in_run mode.Sim may = in_sim
-may_anywhere verb command in_sim in_run mode.Run may = in_run
+Stands queues verb pieces command = (verb_for command ≡ verb) × IsSpelled queues (Word (verb_word verb) ∷ pieces) command
 
 -- ---- words and texts
-
--- lists of words are the same word by word
-pub same_words : {a b : List ℕ} {ps qs : List Piece} → a ≡ b → ps ≡ qs → ◌≡◌ {A = List Piece} (Word a ∷ ps) (Word b ∷ qs)
-same_words {a} {b} {ps} {qs} word others = ap (λ (w : List ℕ). Word w ∷ ps) word ∙ ap (λ (more : List Piece). Word b ∷ more) others
 
 pub word_found : (piece : Piece) (word : List ℕ) → word_of piece ≡ Ok word → piece ≡ Word word
 word_found (Word bytes) word e = ap Word (ok_is bytes word e)
@@ -75,9 +47,9 @@ payloads_found (text ∷ texts) payloads e =
     let are : a.0 ∷ b.0 ≡ payloads = ok_is (a.0 ∷ b.0) payloads b.2 in
     (ap (λ (x : List ℕ). x ∷ texts) first.0 ∙ (ap (λ (more : List (List ℕ)). a.0 ∷ more) others.0 ∙ are), subst (AllByRecursion IsPayload) are (first.1, others.1))
 
-pub worded : (queues : ℕ) (verb : Verb) (read : List (List ℕ) → Result Command FaultKind) → ((words : List (List ℕ)) (command : Command) → read words ≡ Ok command → Stands queues verb (map Word words) command) → (pieces : List Piece) (command : Command) → (words_of pieces >>= read) ≡ Ok command → Stands queues verb pieces command
-worded queues verb read found pieces command e =
-    let a = bind_ok (words_of pieces) read command e in
-    let are : pieces ≡ map Word a.0 = read_all-found word_of Word word_found pieces a.0 a.1 in
-    let There : List Piece → Type 0 = λ ps. Stands queues verb ps command in
-    subst There (sym are) (found a.0 command a.2)
+-- a field that was read, what is known of it, and what is read behind it
+pub read_ok : {X A : Type 0} {read : X → Result A FaultKind} {Is : X → A → Type 0} → ((field : X) (x : A) → read field ≡ Ok x → Is field x)
+    → (field : X) (rest : A → Result Command FaultKind) (command : Command) → (read field >>= rest) ≡ Ok command → (x : A) × Is field x × (rest x ≡ Ok command)
+read_ok {read = read} found field rest command e =
+    let a = bind_ok (read field) rest command e in
+    (a.0, found field a.0 a.1, a.2)

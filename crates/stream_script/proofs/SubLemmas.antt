@@ -1,22 +1,12 @@
 -- A name of a subscription that is read is written so, and what is written so is read.
-use Rattle.std.specs.Prelude.{◌≡◌, ℕ, ◌^◌, ◌<◌, Bool, true, false, not, List, [], ◌∷◌, ◌++◌, Option, Some, None, Ok, nat_lt, ◌==◌, cond, refl}
+use Rattle.stream_script.proofs.Prelude.{ap, ◌∙◌, subst, arith, and_parts, and_from, ltb-true, lt-ltb, not-true, or_from, eqb-true, eq-eqb, nat_tests, decimal, list_all, list_any, ℕ, ◌^◌, Bool, true, false, not, List, [], ◌∷◌, Option, Some, None, Ok, nat_lt, ◌==◌, cond, refl, split_once-front, split_once-joined, is_name_byte, IsName, name_of, ◌>>=◌, split_once, GrainId, StreamId}
+use Rattle.std.specs.Prelude.{◌≡◌, ◌<◌, ◌++◌}
 use Rattle.std.specs.Char.{is_ascii_digit}
-use Rattle.std.specs.Fmt.{decimal}
-use Rattle.std.specs.List.{list_all, list_any}
 use Rattle.std.specs.Str.{all_ascii_digits}
-use Rattle.std.proofs.Common.{ap, ◌∙◌, subst, arith}
-use Rattle.std.proofs.lemmas.Bool.{and_parts, and_from, ltb-true, lt-ltb, not-true, or_from, eqb-true, eq-eqb}
-use Rattle.std.proofs.lemmas.Bool.Decides.{nat_tests}
 use Rattle.std.proofs.lemmas.Fmt.{digits_decimal}
 use Rattle.stream_ident.proofs.NumberLemmas.{numerals}
-use Rattle.stream_ident.proofs.SplitLemmas.{split_once-front, split_once-joined}
-use Rattle.stream_ident.specs.Alphabet.{is_name_byte, IsName}
-use Rattle.stream_ident.specs.declared.ident.GrainId.{GrainId}
-use Rattle.stream_ident.specs.declared.ident.StreamId.{StreamId}
 use Rattle.stream_ident.specs.declared.ident.SubName.{SubName}
 use Rattle.stream_ident.specs.declared.ident.SubName.TheVariants as name
-use Rattle.stream_ident.specs.Name.{name_of, ◌>>=◌}
-use Rattle.stream_ident.specs.Text.{split_once}
 use Rattle.stream_script.specs.declared.parser.command.FaultKind.TheVariants as kind
 use Rattle.stream_script.specs.Fields.{or_fault, as_fault, guard, number_field, queue_field, stream_field, explicit_field, implicit_field, name_from, name_field, sub_parts, sub_field, own_sub_field}
 use Rattle.stream_script.specs.Grammar.{IsStream, IsGrain, IsSub, IsQueue}
@@ -61,34 +51,30 @@ list_any-nowhere p (byte ∷ bytes) none =
     let parts = and_parts (not (p byte)) (list_all (λ byte. not (p byte)) bytes) none in
     or_from (p byte) (list_any p bytes) (not-true (p byte) parts.0) (list_any-nowhere p bytes parts.1)
 
-explicit_found : (bytes : List ℕ) (sub : SubName) → explicit_field bytes ≡ Ok sub → (n : ℕ) × (name.Explicit n ≡ sub) × (bytes ≡ decimal n) × (0 < n) × (n < 2 ^ 32)
+abbrev IsNamed : List ℕ → SubName → Type 0
+IsNamed bytes sub = (bytes ≡ name_text sub) × IsSub sub
+
+explicit_found : (bytes : List ℕ) (sub : SubName) → explicit_field bytes ≡ Ok sub → IsNamed bytes sub
 unfolding explicit_field
 explicit_found bytes sub e =
     let a = bind_ok (number_field (2 ^ 32) bytes) (λ n. guard kind.BadNumber (nat_lt 0 n) (name.Explicit n)) sub e in
     let g = guard_ok kind.BadNumber (nat_lt 0 a.0) (name.Explicit a.0) sub a.2 in
     let d = number_found (2 ^ 32) bytes a.0 a.1 in
-    (a.0, g.1, d.0, ltb-true 0 a.0 g.0, d.1)
+    subst (IsNamed bytes) g.1 (d.0, (ltb-true 0 a.0 g.0, d.1))
 
-implicit_found : (parts : List ℕ × List ℕ) (sub : SubName) → implicit_field parts ≡ Ok sub → (own_kind : List ℕ) × (stream : StreamId) × (name.Implicit own_kind stream ≡ sub) × (parts.0 ≡ own_kind) × (parts.1 ≡ stream_text stream) × IsName own_kind × IsStream stream
+implicit_found : (bytes : List ℕ) (parts : List ℕ × List ℕ) (sub : SubName) → split_once 64 bytes ≡ Some parts → implicit_field parts ≡ Ok sub → IsNamed bytes sub
 unfolding implicit_field
-implicit_found parts sub e =
+implicit_found bytes parts sub split e =
     let a = bind_ok (as_fault kind.BadName (name_of parts.0)) (λ own_kind. stream_field parts.1 >>= λ stream. Ok (name.Implicit own_kind stream)) sub e in
     let b = bind_ok (stream_field parts.1) (λ stream. Ok (name.Implicit a.0 stream)) sub a.2 in
     let first = name_of-found parts.0 a.0 (as_fault_ok kind.BadName (name_of parts.0) a.0 a.1) in
     let second = stream_found parts.1 b.0 b.1 in
-    (a.0, b.0, ok_is (name.Implicit a.0 b.0) sub b.2, first.0, second.0, first.1, second.1)
-
-abbrev IsNamed : List ℕ → SubName → Type 0
-IsNamed bytes sub = (bytes ≡ name_text sub) × IsSub sub
+    let joined = split_once-joined 64 bytes parts split ∙ (ap (λ (front : List ℕ). front ++ 64 ∷ parts.1) first.0 ∙ ap (λ (back : List ℕ). a.0 ++ 64 ∷ back) second.0) in
+    subst (IsNamed bytes) (ok_is (name.Implicit a.0 b.0) sub b.2) (joined, (first.1, second.1))
 
 name_from-found : (bytes : List ℕ) (split : Option (List ℕ × List ℕ)) (sub : SubName) → split_once 64 bytes ≡ split → name_from bytes split ≡ Ok sub → IsNamed bytes sub
-name_from-found bytes None sub split e =
-    let found = explicit_found bytes sub e in
-    subst (IsNamed bytes) found.1 (found.2, (found.3, found.4))
-name_from-found bytes (Some parts) sub split e =
-    let found = implicit_found parts sub e in
-    let joined = split_once-joined 64 bytes parts split ∙ (ap (λ (front : List ℕ). front ++ 64 ∷ parts.1) found.3 ∙ ap (λ (back : List ℕ). found.0 ++ 64 ∷ back) found.4) in
-    subst (IsNamed bytes) found.2 (joined, (found.5, found.6))
+name_from-found bytes None sub split e = explicit_found bytes sub e
+name_from-found bytes (Some parts) sub split e = implicit_found bytes parts sub split e
 
 pub name_found : (bytes : List ℕ) (sub : SubName) → name_field bytes ≡ Ok sub → (bytes ≡ name_text sub) × IsSub sub
 unfolding name_field

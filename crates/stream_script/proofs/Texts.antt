@@ -1,9 +1,7 @@
 -- One text behind another.
-use Rattle.std.proofs.Common.{◌≡◌, ℕ, ◌+◌, ◌<◌, Bool, true, false, cond, List, [], ◌∷◌, ◌++◌, length, take, drop, get_or, Result, Ok, Err, refl, sym, ap, ◌∙◌, append_assoc}
+use Rattle.stream_script.proofs.Prelude.{◌≡◌, ◌+◌, ◌<◌, ◌++◌, length, take, drop, get_or, Result, Err, sym, ap, ◌∙◌, append_assoc, starts_with_rest, take_at, take_more, IsErr}
+use Rattle.std.proofs.Common.{ℕ, Bool, true, false, cond, List, [], ◌∷◌, Ok, refl}
 use Rattle.std.specs.Io.{StartsWith}
-use Rattle.std.specs.Result.{IsErr}
-use Rattle.std.proofs.KnownBytes.{starts_with_rest}
-use Rattle.std.proofs.lemmas.List.{take_at, take_more}
 use Rattle.stream_script.specs.Pieces.{escaped}
 use Rattle.stream_script.specs.Writing.{Writes}
 
@@ -41,7 +39,7 @@ escaped-cons : (b : Bool) (byte : ℕ) (bytes rest : List ℕ) → cond b (92 �
 escaped-cons true byte bytes rest = refl
 escaped-cons false byte bytes rest = refl
 
-escaped-append : (front rest : List ℕ) → escaped (front ++ rest) ≡ escaped front ++ escaped rest
+pub escaped-append : (front rest : List ℕ) → escaped (front ++ rest) ≡ escaped front ++ escaped rest
 escaped-append [] rest = refl
 escaped-append (byte ∷ front) rest = rw (escaped-append front rest) (escaped-cons _ byte (escaped front) (escaped rest))
 

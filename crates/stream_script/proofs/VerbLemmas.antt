@@ -1,15 +1,20 @@
 -- The word of each verb.
-use Rattle.std.specs.Prelude.{◌≡◌, ℕ, List, Option, Some, None, Ok, codes, cond, refl}
+use Rattle.stream_script.proofs.Prelude.{sym, ap, subst, inl, inr, cases_Bool, ℕ, true, List, Option, Some, None, Ok, cond, refl, same_name}
+use Rattle.std.specs.Prelude.{◌≡◌, codes}
 use Rattle.std.specs.Cmp.Lexicographic.{same_text}
-use Rattle.std.proofs.Common.{sym, ap, subst, inl, inr}
-use Rattle.std.proofs.lemmas.Bool.{cases_Bool}
-use Rattle.stream_ident.specs.Name.{same_name}
 use Rattle.stream_ident.specs.Words.{or_else}
+use Rattle.stream_model.specs.declared.op.Op.TheVariants as op
+use Rattle.stream_script.specs.declared.parser.command.Command.{Command}
+use Rattle.stream_script.specs.declared.parser.command.Command.TheVariants as made
+use Rattle.stream_script.specs.declared.parser.command.EachOp.TheVariants as each
 use Rattle.stream_script.specs.declared.parser.command.FaultKind.TheVariants as kind
+use Rattle.stream_script.specs.declared.parser.command.Mode.{Mode}
+use Rattle.stream_script.specs.declared.parser.command.Mode.TheVariants as mode
 use Rattle.stream_script.specs.declared.parser.command.Verb.{Verb}
 use Rattle.stream_script.specs.declared.parser.command.Verb.TheVariants.{Pub, Sub, Unsub, Rule, Pull, Deliver, Retry, Ack, Purge, Move, Begin, Commit, Deactivate, Ready, Due, Quiet, Drain, Report, Up, Down}
+use Rattle.stream_script.specs.Grammar.{MayStand}
 use Rattle.stream_script.specs.Pieces.{Piece, Word, Text}
-use Rattle.stream_script.specs.Verbs.{producer_verb, agent_verb, worker_verb, look_verb, operator_verb, verb_of, verb_in_front}
+use Rattle.stream_script.specs.Verbs.{may_stand, producer_verb, agent_verb, worker_verb, look_verb, operator_verb, verb_of, verb_in_front}
 use Rattle.stream_script.proofs.FieldLemmas.{or_fault_ok}
 
 -- the word of each verb
@@ -81,22 +86,43 @@ verb_in_front-found (Text bytes) verb e = absurd cc
 
 pub verb_of-word : (verb : Verb) → verb_of (verb_word verb) ≡ Some verb
 verb_of-word Pub = refl
-verb_of-word Sub = refl
-verb_of-word Unsub = refl
-verb_of-word Rule = refl
-verb_of-word Pull = refl
-verb_of-word Deliver = refl
-verb_of-word Retry = refl
-verb_of-word Ack = refl
-verb_of-word Purge = refl
-verb_of-word Move = refl
-verb_of-word Begin = refl
-verb_of-word Commit = refl
-verb_of-word Deactivate = refl
-verb_of-word Ready = refl
-verb_of-word Due = refl
-verb_of-word Quiet = refl
-verb_of-word Drain = refl
-verb_of-word Report = refl
-verb_of-word Up = refl
-verb_of-word Down = refl
+verb_of-word _ = refl
+
+-- the verb of each command; the operations without one are done on each queue
+abbrev pub verb_for : Command → Verb
+verb_for (made.Step queue (op.Publish stream payloads)) = Pub
+verb_for (made.Step queue (op.Subscribe stream grain start)) = Sub
+verb_for (made.Step queue (op.Unsubscribe sub)) = Unsub
+verb_for (made.Step queue (op.Pull generation most)) = Pull
+verb_for (made.Step queue (op.Deliver generation sub)) = Deliver
+verb_for (made.Step queue (op.Retry generation sub)) = Retry
+verb_for (made.Step queue (op.Ack generation sub token)) = Ack
+verb_for (made.Step queue (op.Purge generation keep)) = Purge
+verb_for (made.Step queue (op.Move silo)) = Move
+verb_for (made.Step queue (op.Begin grain most)) = Begin
+verb_for (made.Step queue (op.Commit grain activation turn note)) = Commit
+verb_for (made.Step queue (op.Deactivate grain)) = Deactivate
+verb_for (made.Step queue (op.Ready after)) = Ready
+verb_for (made.Step queue (op.Due after)) = Due
+verb_for (made.Step queue _) = Quiet
+verb_for (made.Each (each.Rule own_kind namespace)) = Rule
+verb_for (made.Each each.Quiet) = Quiet
+verb_for made.Drain = Drain
+verb_for made.Report = Report
+verb_for (made.Up silo) = Up
+verb_for (made.Down silo) = Down
+
+-- a command may stand just where its verb may
+pub may_stand-verb : (m : Mode) (command : Command) → MayStand m command → may_stand m (verb_for command) ≡ true
+may_stand-verb mode.Sim (made.Step queue op.Quiet) may = refl
+may_stand-verb mode.Sim (made.Each each.Quiet) may = refl
+may_stand-verb mode.Run (made.Step queue op.Quiet) may = absurd may
+may_stand-verb mode.Run (made.Each each.Quiet) may = absurd may
+may_stand-verb _ _ may = search
+
+pub verb-may_stand : (m : Mode) (command : Command) → may_stand m (verb_for command) ≡ true → MayStand m command
+verb-may_stand mode.Sim (made.Step queue op.Quiet) may = tt
+verb-may_stand mode.Sim (made.Each each.Quiet) may = tt
+verb-may_stand mode.Run (made.Step queue op.Quiet) may = absurd cc
+verb-may_stand mode.Run (made.Each each.Quiet) may = absurd cc
+verb-may_stand _ _ may = first_of (search, cc)

@@ -1,10 +1,6 @@
 -- What reading a script and doing it says of the source's bytes.
-use Rattle.std.proofs.Common.{◌≡◌, ℕ, suc, ◌<◌, ◌≤◌, List, [], ◌++◌, length, replicate, arith, Option, None, Some, Result, Ok, Err, refl, sym, ap, ◌∙◌, subst}
-use Rattle.std.specs.Prelude.{IfSome}
-use Rattle.std.specs.Io.KnownBytes.{Consumes, IsAtEnd, Keeps}
-use Rattle.std.proofs.KnownBytes.{Appends-nil, Appends-kept}
-use Rattle.std.proofs.lemmas.Bool.{le-ltb, lt-ltb}
-use Rattle.std.proofs.lemmas.List.{append-nil, length-replicate}
+use Rattle.stream_script.proofs.Prelude.{◌≡◌, suc, ◌<◌, ◌≤◌, ◌++◌, length, replicate, arith, Result, Err, sym, ap, ◌∙◌, subst, Appends-nil, Appends-kept, le-ltb, lt-ltb, append-nil, length-replicate, Consumes, IsAtEnd, Keeps, IfSome}
+use Rattle.std.proofs.Common.{ℕ, List, [], Option, None, Some, Ok, refl}
 use Rattle.stream_script.specs.declared.parser.command.Fault.{Fault}
 use Rattle.stream_script.specs.declared.simulate.SimConfig.{SimConfig}
 use Rattle.stream_script.specs.declared.simulate.SimError.{SimError}

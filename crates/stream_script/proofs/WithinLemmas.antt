@@ -1,12 +1,10 @@
 -- A command that is read is of a queue that there is.
-use Rattle.std.proofs.Common.{◌≡◌, ℕ, ◌%◌, ◌<◌, ◌≤◌, List, None, Some, Result, Ok, Err, IfOk, refl, sym, subst, arith}
-use Rattle.std.specs.declared.alloc.AllocError.{AllocError}
-use Rattle.stream_ident.specs.declared.ident.StreamId.{StreamId}
+use Rattle.stream_script.proofs.Prelude.{◌≡◌, ◌%◌, ◌<◌, ◌≤◌, Result, sym, subst, arith, AllocError, StreamId}
+use Rattle.std.proofs.Common.{ℕ, List, None, Ok, IfOk, refl}
 use Rattle.stream_model.specs.declared.op.Op.{Op}
 use Rattle.stream_model.specs.declared.op.Op.TheVariants as op
 use Rattle.stream_script.specs.declared.parser.command.Command.{Command}
 use Rattle.stream_script.specs.declared.parser.command.Command.TheVariants.{Step}
-use Rattle.stream_script.specs.declared.parser.command.Command.TheVariants as made
 use Rattle.stream_script.specs.declared.parser.command.Mode.{Mode}
 use Rattle.stream_script.specs.declared.parser.command.Parsed.{Parsed}
 use Rattle.stream_script.specs.declared.parser.command.Parsed.TheVariants as parsed
@@ -28,33 +26,15 @@ queue_of-below stream queues queue some is =
 written-within : (queues : ℕ) (pieces : List Piece) (queue : ℕ) (o : Op) → 1 ≤ queues → IsWritten queues pieces queue o → queue < queues
 written-within queues pieces queue (op.Publish stream payloads) some written = queue_of-below stream queues queue some written.2
 written-within queues pieces queue (op.Subscribe stream grain start) some written = queue_of-below stream queues queue some written.2
-written-within queues pieces queue (op.Pull generation most) some written = written.0.0
-written-within queues pieces queue (op.Deliver generation sub) some written = written.0.0
-written-within queues pieces queue (op.Begin grain most) some written = written.0.0
-written-within queues pieces queue (op.Commit grain activation turn note) some written = written.0.0
-written-within queues pieces queue (op.Unsubscribe sub) some written = written.0.0
 written-within queues pieces queue (op.AddRule kind namespace) some written = absurd written
-written-within queues pieces queue (op.Retry generation sub) some written = written.0.0
-written-within queues pieces queue (op.Ack generation sub token) some written = written.0.0
-written-within queues pieces queue (op.Purge generation keep) some written = written.0.0
-written-within queues pieces queue (op.Deactivate grain) some written = written.0.0
-written-within queues pieces queue (op.Move silo) some written = written.0.0
 written-within queues pieces queue (op.Ready None) some written = written.0.0
-written-within queues pieces queue (op.Ready (Some grain)) some written = written.0.0
 written-within queues pieces queue (op.Due None) some written = written.0.0
-written-within queues pieces queue (op.Due (Some sub)) some written = written.0.0
 written-within queues pieces queue op.Quiet some written = absurd written
+written-within queues pieces queue _ some written = written.0.0
 
 -- what is read, where each command that is read is written so
 pub within-found : (mode : Mode) (queues : ℕ) (line : List ℕ) (result : Result Parsed AllocError) → 1 ≤ queues
     → ((command : Command) → result ≡ Ok (parsed.Command command) → Reads mode queues line command) → IfOk result (IsWithin queues)
-within-found mode queues line (Err e) some found = tt
-within-found mode queues line (Ok parsed.Skip) some found = tt
-within-found mode queues line (Ok (parsed.Fault fault)) some found = tt
 within-found mode queues line (Ok (parsed.Command (Step queue o))) some found =
     let reads = found (Step queue o) refl in written-within queues reads.1 queue o some reads.3
-within-found mode queues line (Ok (parsed.Command (made.Each o))) some found = tt
-within-found mode queues line (Ok (parsed.Command made.Drain)) some found = tt
-within-found mode queues line (Ok (parsed.Command made.Report)) some found = tt
-within-found mode queues line (Ok (parsed.Command (made.Up silo))) some found = tt
-within-found mode queues line (Ok (parsed.Command (made.Down silo))) some found = tt
+within-found mode queues line _ some found = tt

@@ -83,10 +83,11 @@ sub_from queues stream grain word token = do
   Ok (command.Step (queue_of stream queues) (op.Subscribe stream grain (start.At token)))
 
 -- unsub SUB
-unfoldable pub unsub_fields : ℕ → List ℕ → Result Command FaultKind
-unsub_fields queues sub = do
+unfoldable pub unsub_words : ℕ → List (List ℕ) → Result Command FaultKind
+unsub_words queues (sub ∷ []) = do
   sub ← sub_field queues sub
   Ok (command.Step sub.0 (op.Unsubscribe sub.1))
+unsub_words queues _ = Err kind.WordCount
 
 -- the operation that is done on each queue
 abbrev pub op_of : EachOp → Op
@@ -94,11 +95,12 @@ op_of (each.Rule own_kind namespace) = op.AddRule own_kind namespace
 op_of each.Quiet = op.Quiet
 
 -- rule KIND NS
-unfoldable pub rule_fields : List ℕ → List ℕ → Result Command FaultKind
-rule_fields own_kind namespace = do
+unfoldable pub rule_words : List (List ℕ) → Result Command FaultKind
+rule_words (own_kind ∷ namespace ∷ []) = do
   own_kind ← bare_name_field own_kind
   namespace ← bare_name_field namespace
   Ok (command.Each (each.Rule own_kind namespace))
+rule_words _ = Err kind.WordCount
 
 -- pull Q GEN MAX
 unfoldable pub pull_fields : ℕ → List ℕ → List ℕ → List ℕ → Result Command FaultKind
@@ -108,19 +110,25 @@ pull_fields queues queue generation most = do
   most ← number_field (2 ^ 32) most
   Ok (command.Step queue (op.Pull generation most))
 
+abbrev pub pull_words : ℕ → List (List ℕ) → Result Command FaultKind
+pull_words queues (queue ∷ generation ∷ most ∷ []) = pull_fields queues queue generation most
+pull_words queues _ = Err kind.WordCount
+
 -- deliver GEN SUB
-unfoldable pub deliver_fields : ℕ → List ℕ → List ℕ → Result Command FaultKind
-deliver_fields queues generation sub = do
+unfoldable pub deliver_words : ℕ → List (List ℕ) → Result Command FaultKind
+deliver_words queues (generation ∷ sub ∷ []) = do
   generation ← number_field (2 ^ 64) generation
   sub ← sub_field queues sub
   Ok (command.Step sub.0 (op.Deliver generation sub.1))
+deliver_words queues _ = Err kind.WordCount
 
 -- retry GEN SUB
-unfoldable pub retry_fields : ℕ → List ℕ → List ℕ → Result Command FaultKind
-retry_fields queues generation sub = do
+unfoldable pub retry_words : ℕ → List (List ℕ) → Result Command FaultKind
+retry_words queues (generation ∷ sub ∷ []) = do
   generation ← number_field (2 ^ 64) generation
   sub ← sub_field queues sub
   Ok (command.Step sub.0 (op.Retry generation sub.1))
+retry_words queues _ = Err kind.WordCount
 
 -- ack GEN SUB TOKEN
 unfoldable pub ack_fields : ℕ → List ℕ → List ℕ → List ℕ → Result Command FaultKind
@@ -130,6 +138,10 @@ ack_fields queues generation sub token = do
   token ← token_field token
   Ok (command.Step sub.0 (op.Ack generation sub.1 token))
 
+abbrev pub ack_words : ℕ → List (List ℕ) → Result Command FaultKind
+ack_words queues (generation ∷ sub ∷ token ∷ []) = ack_fields queues generation sub token
+ack_words queues _ = Err kind.WordCount
+
 -- purge Q GEN KEEP
 unfoldable pub purge_fields : ℕ → List ℕ → List ℕ → List ℕ → Result Command FaultKind
 purge_fields queues queue generation keep = do
@@ -138,12 +150,17 @@ purge_fields queues queue generation keep = do
   keep ← number_field (2 ^ 32) keep
   Ok (command.Step queue (op.Purge generation keep))
 
+abbrev pub purge_words : ℕ → List (List ℕ) → Result Command FaultKind
+purge_words queues (queue ∷ generation ∷ keep ∷ []) = purge_fields queues queue generation keep
+purge_words queues _ = Err kind.WordCount
+
 -- move Q SILO
-unfoldable pub move_fields : ℕ → List ℕ → List ℕ → Result Command FaultKind
-move_fields queues queue silo = do
+unfoldable pub move_words : ℕ → List (List ℕ) → Result Command FaultKind
+move_words queues (queue ∷ silo ∷ []) = do
   queue ← queue_field queues queue
   silo ← number_field MOST_SILOS silo
   Ok (command.Step queue (op.Move silo))
+move_words queues _ = Err kind.WordCount
 
 -- begin Q GRAIN
 unfoldable pub begin_one : ℕ → List ℕ → List ℕ → Result Command FaultKind
@@ -170,12 +187,17 @@ commit_fields queues queue grain activation turn note = do
   note ← number_field (2 ^ 64) note
   Ok (command.Step queue (op.Commit grain activation turn note))
 
+abbrev pub commit_words : ℕ → List (List ℕ) → Result Command FaultKind
+commit_words queues (queue ∷ grain ∷ activation ∷ turn ∷ note ∷ []) = commit_fields queues queue grain activation turn note
+commit_words queues _ = Err kind.WordCount
+
 -- deactivate Q GRAIN
-unfoldable pub deactivate_fields : ℕ → List ℕ → List ℕ → Result Command FaultKind
-deactivate_fields queues queue grain = do
+unfoldable pub deactivate_words : ℕ → List (List ℕ) → Result Command FaultKind
+deactivate_words queues (queue ∷ grain ∷ []) = do
   queue ← queue_field queues queue
   grain ← grain_field grain
   Ok (command.Step queue (op.Deactivate grain))
+deactivate_words queues _ = Err kind.WordCount
 
 -- ready Q
 unfoldable pub ready_first : ℕ → List ℕ → Result Command FaultKind
@@ -204,16 +226,18 @@ due_after queues queue sub = do
   Ok (command.Step queue (op.Due (Some sub)))
 
 -- up SILO
-unfoldable pub up_fields : List ℕ → Result Command FaultKind
-up_fields silo = do
+unfoldable pub up_words : List (List ℕ) → Result Command FaultKind
+up_words (silo ∷ []) = do
   silo ← number_field MOST_SILOS silo
   Ok (command.Up silo)
+up_words _ = Err kind.WordCount
 
 -- down SILO
-unfoldable pub down_fields : List ℕ → Result Command FaultKind
-down_fields silo = do
+unfoldable pub down_words : List (List ℕ) → Result Command FaultKind
+down_words (silo ∷ []) = do
   silo ← number_field MOST_SILOS silo
   Ok (command.Down silo)
+down_words _ = Err kind.WordCount
 
 -- what stands behind each verb
 abbrev pub sub_words : ℕ → List (List ℕ) → Result Command FaultKind
@@ -221,50 +245,10 @@ sub_words queues (stream ∷ grain ∷ word ∷ []) = sub_latest queues stream g
 sub_words queues (stream ∷ grain ∷ word ∷ token ∷ []) = sub_from queues stream grain word token
 sub_words queues _ = Err kind.WordCount
 
-abbrev pub pull_words : ℕ → List (List ℕ) → Result Command FaultKind
-pull_words queues (queue ∷ generation ∷ most ∷ []) = pull_fields queues queue generation most
-pull_words queues _ = Err kind.WordCount
-
-abbrev pub deliver_words : ℕ → List (List ℕ) → Result Command FaultKind
-deliver_words queues (generation ∷ sub ∷ []) = deliver_fields queues generation sub
-deliver_words queues _ = Err kind.WordCount
-
 abbrev pub begin_words : ℕ → List (List ℕ) → Result Command FaultKind
 begin_words queues (queue ∷ grain ∷ []) = begin_one queues queue grain
 begin_words queues (queue ∷ grain ∷ most ∷ []) = begin_most queues queue grain most
 begin_words queues _ = Err kind.WordCount
-
-abbrev pub commit_words : ℕ → List (List ℕ) → Result Command FaultKind
-commit_words queues (queue ∷ grain ∷ activation ∷ turn ∷ note ∷ []) = commit_fields queues queue grain activation turn note
-commit_words queues _ = Err kind.WordCount
-
-abbrev pub unsub_words : ℕ → List (List ℕ) → Result Command FaultKind
-unsub_words queues (sub ∷ []) = unsub_fields queues sub
-unsub_words queues _ = Err kind.WordCount
-
-abbrev pub rule_words : List (List ℕ) → Result Command FaultKind
-rule_words (own_kind ∷ namespace ∷ []) = rule_fields own_kind namespace
-rule_words _ = Err kind.WordCount
-
-abbrev pub retry_words : ℕ → List (List ℕ) → Result Command FaultKind
-retry_words queues (generation ∷ sub ∷ []) = retry_fields queues generation sub
-retry_words queues _ = Err kind.WordCount
-
-abbrev pub ack_words : ℕ → List (List ℕ) → Result Command FaultKind
-ack_words queues (generation ∷ sub ∷ token ∷ []) = ack_fields queues generation sub token
-ack_words queues _ = Err kind.WordCount
-
-abbrev pub purge_words : ℕ → List (List ℕ) → Result Command FaultKind
-purge_words queues (queue ∷ generation ∷ keep ∷ []) = purge_fields queues queue generation keep
-purge_words queues _ = Err kind.WordCount
-
-abbrev pub move_words : ℕ → List (List ℕ) → Result Command FaultKind
-move_words queues (queue ∷ silo ∷ []) = move_fields queues queue silo
-move_words queues _ = Err kind.WordCount
-
-abbrev pub deactivate_words : ℕ → List (List ℕ) → Result Command FaultKind
-deactivate_words queues (queue ∷ grain ∷ []) = deactivate_fields queues queue grain
-deactivate_words queues _ = Err kind.WordCount
 
 abbrev pub ready_words : ℕ → List (List ℕ) → Result Command FaultKind
 ready_words queues (queue ∷ []) = ready_first queues queue
@@ -275,14 +259,6 @@ abbrev pub due_words : ℕ → List (List ℕ) → Result Command FaultKind
 due_words queues (queue ∷ []) = due_first queues queue
 due_words queues (queue ∷ sub ∷ []) = due_after queues queue sub
 due_words queues _ = Err kind.WordCount
-
-abbrev pub up_words : List (List ℕ) → Result Command FaultKind
-up_words (silo ∷ []) = up_fields silo
-up_words _ = Err kind.WordCount
-
-abbrev pub down_words : List (List ℕ) → Result Command FaultKind
-down_words (silo ∷ []) = down_fields silo
-down_words _ = Err kind.WordCount
 
 -- a command whose word stands alone
 abbrev pub alone : Command → List (List ℕ) → Result Command FaultKind

@@ -2,14 +2,13 @@
 //!
 //! What has a partition, a command or an event as a value isn't inlined, so that its room is no part of the frames below
 //! which lines are done.
-ghost use Rattle.std.specs.Prelude.{◌≡◌, ◌+◌, ◌^◌, ◌<◌, ◌≤◌, ◌-◌, [], ◌++◌, suc, length, map, vec_len, false, Ok, Err, IfOk, IfSome, OnOk, replicate, slice_index_or, if◌then◌else◌};
-ghost use Rattle.std.specs.Io.KnownBytes.{Appends, Consumes, IsAtEnd, Keeps};
+ghost use Rattle.std.specs.Prelude.{◌≡◌, ◌+◌, ◌^◌, ◌<◌, ◌≤◌, ◌-◌, [], suc, length, map, vec_len, false, Ok, Err, IfOk, IfSome, OnOk, replicate, slice_index_or, if◌then◌else◌};
+ghost use Rattle.std.specs.Io.KnownBytes.{IsAtEnd, Keeps};
 ghost use Rattle.std.specs.List.{AllByRecursion};
 ghost use Rattle.stream_ident.specs.Alphabet.{IsPayload};
 ghost use Rattle.stream_model.specs.Draining.{drain};
 ghost use Rattle.stream_model.specs.Positions.{empty};
 ghost use Rattle.stream_model.specs.Step.{step};
-ghost use Rattle.stream_script.specs.Lines.{lines_of};
 ghost use Rattle.stream_script.specs.Forms.{op_of};
 ghost use Rattle.stream_script.specs.Simulation.{IsSimConfig, Simulates, SimulatesSome, RunsLines, Finishes, ReadsScript, ReadsSome, simulation, run_script, is_read_fault, is_write_fault, behind, stepped, stepped_each, drained, drained_each, run_line, RunsLine};
 

@@ -1,5 +1,5 @@
 //! What stands behind the verbs of pulling agents and workers.
-ghost use Rattle.std.specs.Prelude.{◌≡◌, map};
+ghost use Rattle.std.specs.Prelude.{map};
 ghost use Rattle.stream_script.specs.Reading.{Makes};
 ghost use Rattle.stream_script.specs.Forms.{pull_words, pull_fields, deliver_words, retry_words, ack_words, ack_fields, purge_words, purge_fields, move_words, begin_words, begin_one, begin_most, commit_words, commit_fields, deactivate_words, ready_words, ready_first, ready_after, due_words, due_first, due_after};
 
@@ -36,7 +36,7 @@ fn pull_fields(
 }
 
 /// `deliver GEN SUB`
-#[tactic(auto, unfolding(crate::specs::Forms::deliver_fields))]
+#[tactic(auto, unfolding(crate::specs::Forms::deliver_words))]
 #[inline(never)]
 pub(crate) fn deliver(
     words: &[&[u8]],
@@ -55,7 +55,7 @@ pub(crate) fn deliver(
 }
 
 /// `retry GEN SUB`
-#[tactic(auto, unfolding(crate::specs::Forms::retry_fields))]
+#[tactic(auto, unfolding(crate::specs::Forms::retry_words))]
 #[inline(never)]
 pub(crate) fn retry(words: &[&[u8]], queues: usize, command: &mut Command) -> Result<(), FaultKind>
     ensures { Makes command.new result (retry_words queues (map (λ word. word.now) words.now)) }
@@ -133,7 +133,7 @@ fn purge_fields(
 }
 
 /// `move Q SILO`
-#[tactic(auto, unfolding(crate::specs::Forms::move_fields))]
+#[tactic(auto, unfolding(crate::specs::Forms::move_words))]
 #[inline(never)]
 pub(crate) fn move_queue(
     words: &[&[u8]],
@@ -239,7 +239,7 @@ fn commit_fields(
 }
 
 /// `deactivate Q GRAIN`
-#[tactic(auto, unfolding(crate::specs::Forms::deactivate_fields))]
+#[tactic(auto, unfolding(crate::specs::Forms::deactivate_words))]
 #[inline(never)]
 pub(crate) fn deactivate(
     words: &[&[u8]],

@@ -4,7 +4,7 @@ ghost use Rattle.std.specs.List.{position_or_len};
 ghost use Rattle.std.specs.Option.{option_map};
 ghost use Rattle.stream_script.specs.Lexer.{pieces_of, pieces_in, piece_of, starts_piece, begins_word, begins_with, escape_at, CutsOne, Between, InWord, InText, Closed};
 ghost use Rattle.stream_script.specs.Lines.{cut_at_feeds, without_return, lines_of};
-ghost use Rattle.stream_script.specs.Pieces.{Word, Text, is_space, is_quote, ends_piece, ends_word, is_special};
+ghost use Rattle.stream_script.specs.Pieces.{Word, Text, ends_piece, ends_word, is_special};
 
 use std::alloc::{AllocError, Global};
 use std::marker::Model;

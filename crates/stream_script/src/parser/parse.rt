@@ -383,7 +383,7 @@ fn subscription(stream: StreamId, grain: GrainId, start: Start, queues: usize) -
 }
 
 /// `unsub SUB`
-#[tactic(auto, unfolding(crate::specs::Forms::unsub_fields))]
+#[tactic(auto, unfolding(crate::specs::Forms::unsub_words))]
 #[inline(never)]
 fn unsubscribe(words: &[&[u8]], queues: usize, command: &mut Command) -> Result<(), FaultKind>
     ensures { Makes command.new result (unsub_words queues (map (λ word. word.now) words.now)) }
@@ -397,7 +397,7 @@ fn unsubscribe(words: &[&[u8]], queues: usize, command: &mut Command) -> Result<
 }
 
 /// `rule KIND NS`
-#[tactic(auto, unfolding(crate::specs::Forms::rule_fields))]
+#[tactic(auto, unfolding(crate::specs::Forms::rule_words))]
 #[inline(never)]
 fn rule(words: &[&[u8]], command: &mut Command) -> Result<(), FaultKind>
     ensures { Makes command.new result (rule_words (map (λ word. word.now) words.now)) }
@@ -412,7 +412,7 @@ fn rule(words: &[&[u8]], command: &mut Command) -> Result<(), FaultKind>
 }
 
 /// `up SILO`
-#[tactic(auto, unfolding(crate::specs::Forms::up_fields))]
+#[tactic(auto, unfolding(crate::specs::Forms::up_words))]
 #[inline(never)]
 fn up(words: &[&[u8]], command: &mut Command) -> Result<(), FaultKind>
     ensures { Makes command.new result (up_words (map (λ word. word.now) words.now)) }
@@ -426,7 +426,7 @@ fn up(words: &[&[u8]], command: &mut Command) -> Result<(), FaultKind>
 }
 
 /// `down SILO`
-#[tactic(auto, unfolding(crate::specs::Forms::down_fields))]
+#[tactic(auto, unfolding(crate::specs::Forms::down_words))]
 #[inline(never)]
 fn down(words: &[&[u8]], command: &mut Command) -> Result<(), FaultKind>
     ensures { Makes command.new result (down_words (map (λ word. word.now) words.now)) }

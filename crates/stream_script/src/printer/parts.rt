@@ -1,5 +1,5 @@
 //! What the texts of replies and of the report are made of: numbers, tokens, names and payloads.
-ghost use Rattle.std.specs.Prelude.{◌≡◌, ◌++◌, [], ◌∷◌};
+ghost use Rattle.std.specs.Prelude.{◌++◌, [], ◌∷◌};
 ghost use Rattle.std.specs.Fmt.{decimal};
 ghost use Rattle.stream_ident.specs.Token.{token_text};
 ghost use Rattle.stream_script.specs.Pieces.{Text, spelling, escaped};

@@ -1,6 +1,5 @@
 //! The report: what each subscription has handled.
 ghost use Rattle.std.specs.Prelude.{◌≡◌, ◌<◌, ◌++◌, length, OnOk, OnErr};
-ghost use Rattle.std.specs.Fmt.{decimal};
 ghost use Rattle.std.specs.List.{AllByRecursion, flat_map};
 ghost use Rattle.stream_ident.specs.Event.{events_at};
 ghost use Rattle.stream_script.specs.Report.{queue_report, report_of, summary_text, binding_text, open_text, closed_text, handled_line};

@@ -1,5 +1,4 @@
-use Rattle.std.proofs.Common.{◌≡◌, ◌≤◌, ◌-◌, vec_len}
-use Rattle.std.specs.Io.KnownBytes.{Consumes}
+use Rattle.stream_script.proofs.Prelude.{◌≡◌, ◌≤◌, ◌-◌, vec_len, Consumes}
 use Rattle.stream_script.proofs.simulate.read_script.Given as goal
 
 -- what was read so far

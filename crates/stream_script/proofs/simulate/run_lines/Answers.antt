@@ -1,4 +1,4 @@
-use Rattle.std.proofs.Common.{◌∙◌, length, ap, arith}
+use Rattle.stream_script.proofs.Prelude.{◌∙◌, length, ap, arith}
 use Rattle.stream_script.proofs.CutLemmas.{length-lines_of}
 use Rattle.stream_script.proofs.Running.{goes_on, stops, line_done}
 use Rattle.stream_script.proofs.simulate.run_lines.Goals as goal

@@ -1,4 +1,4 @@
-use Rattle.std.proofs.Common.{◌≡◌, ◌+◌, length}
+use Rattle.stream_script.proofs.Prelude.{◌≡◌, ◌+◌, length}
 use Rattle.stream_script.specs.Lines.{lines_of}
 use Rattle.stream_script.specs.Simulation.{run_lines, run_script}
 use Rattle.stream_script.proofs.Running.{Reaches}

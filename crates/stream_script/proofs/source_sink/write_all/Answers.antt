@@ -1,4 +1,4 @@
-use Rattle.std.proofs.Common.{◌∙◌}
+use Rattle.stream_script.proofs.Prelude.{◌∙◌}
 use Rattle.stream_script.proofs.Known.{more_appended}
 use Rattle.stream_script.proofs.source_sink.write_all.Goals as goal
 

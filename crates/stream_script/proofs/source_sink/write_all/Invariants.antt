@@ -1,4 +1,4 @@
-use Rattle.std.proofs.Common.{◌≡◌, length}
+use Rattle.stream_script.proofs.Prelude.{◌≡◌, length}
 use Rattle.stream_script.specs.Transfers.{AppendsUpTo}
 use Rattle.stream_script.proofs.source_sink.write_all.Given as goal
 

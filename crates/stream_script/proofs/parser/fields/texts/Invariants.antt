@@ -1,4 +1,4 @@
-use Rattle.std.proofs.Common.{◌≡◌, map, drop}
+use Rattle.stream_script.proofs.Prelude.{◌≡◌, map, drop}
 use Rattle.stream_script.specs.Lexer.{piece_of}
 use Rattle.stream_script.specs.Forms.{read_all, text_of}
 use Rattle.stream_script.proofs.ReadLemmas.{with_read}

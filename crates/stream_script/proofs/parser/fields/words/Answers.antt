@@ -1,5 +1,4 @@
-use Rattle.std.proofs.Common.{◌+◌, ◌∙◌, ap, drop, map}
-use Rattle.std.proofs.lemmas.List.{map_push}
+use Rattle.stream_script.proofs.Prelude.{◌+◌, ◌∙◌, ap, drop, map, map_push}
 use Rattle.stream_script.specs.Lexer.{piece_of}
 use Rattle.stream_script.specs.Forms.{read_all, word_of}
 use Rattle.stream_script.proofs.ReadLemmas.{with_read, read_more, read_stuck, read_done, gives_fault}

@@ -1,4 +1,4 @@
-use Rattle.std.proofs.Common.{◌≡◌, length}
+use Rattle.stream_script.proofs.Prelude.{◌≡◌, length}
 use Rattle.stream_script.specs.Lexer.{Between, cut, pieces_in}
 use Rattle.stream_script.proofs.PieceLemmas.{with_front}
 use Rattle.stream_script.proofs.parser.lines.pieces.Given as goal

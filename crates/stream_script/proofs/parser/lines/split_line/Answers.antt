@@ -1,4 +1,4 @@
-use Rattle.std.proofs.Common.{sym, ap, ◌∙◌}
+use Rattle.stream_script.proofs.Prelude.{sym, ap, ◌∙◌}
 use Rattle.stream_script.proofs.CutLemmas.{cut-parts, from_parts}
 use Rattle.stream_script.proofs.parser.lines.split_line.Goals as goal
 

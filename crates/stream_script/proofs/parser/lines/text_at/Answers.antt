@@ -1,5 +1,5 @@
-use Rattle.std.proofs.Common.{◌≡◌, ◌∙◌, ◌++◌, ◌-◌, ◌∷◌, take, [], ap, sym, length, List, ℕ, arith, drop}
-use Rattle.std.proofs.lemmas.List.{take_rest}
+use Rattle.stream_script.proofs.Prelude.{◌≡◌, ◌∙◌, ◌++◌, ◌-◌, take, ap, sym, length, arith, drop, take_rest}
+use Rattle.std.proofs.Common.{◌∷◌, [], List, ℕ}
 use Rattle.stream_script.specs.Lexer.{InText, Closed, cut}
 use Rattle.stream_script.proofs.PieceLemmas.{text_begun, cut-quote, cut-escape, cut-text_stuck, CutsOne-along}
 use Rattle.stream_script.proofs.parser.lines.text_at.Goals as goal

@@ -1,4 +1,4 @@
-use Rattle.std.proofs.Common.{◌∙◌, sym, arith}
+use Rattle.stream_script.proofs.Prelude.{◌∙◌, sym, arith}
 use Rattle.stream_script.proofs.PieceLemmas.{word_quoted, word_found, word_some}
 use Rattle.stream_script.proofs.parser.lines.word_at.Goals as goal
 

@@ -1,5 +1,4 @@
-use Rattle.std.proofs.Common.{◌∙◌, ap, length}
-use Rattle.std.specs.Prelude.{unwrap_or}
+use Rattle.stream_script.proofs.Prelude.{◌∙◌, ap, length, unwrap_or}
 use Rattle.stream_script.specs.Pieces.{ends_word}
 use Rattle.stream_script.proofs.PieceLemmas.{unwrap_or-position}
 use Rattle.stream_script.proofs.parser.lines.word_len.Goals as goal

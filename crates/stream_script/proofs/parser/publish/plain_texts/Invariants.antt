@@ -1,6 +1,4 @@
-use Rattle.std.proofs.Common.{◌≡◌, map, length}
-use Rattle.std.specs.List.{AllByRecursion}
-use Rattle.stream_ident.specs.Alphabet.{IsPayload}
+use Rattle.stream_script.proofs.Prelude.{◌≡◌, map, length, AllByRecursion, IsPayload}
 use Rattle.stream_script.specs.Lexer.{Between, cut}
 use Rattle.stream_script.specs.Pieces.{Text}
 use Rattle.stream_script.proofs.PieceLemmas.{with_front}

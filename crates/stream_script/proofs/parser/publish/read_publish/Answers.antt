@@ -1,4 +1,5 @@
-use Rattle.std.proofs.Common.{◌≡◌, ◌∙◌, ap, sym, true, map, rules}
+use Rattle.stream_script.proofs.Prelude.{◌≡◌, ◌∙◌, ap, sym, map, rules}
+use Rattle.std.proofs.Common.{true}
 use Rattle.stream_model.specs.declared.op.Op.TheVariants as op
 use Rattle.stream_script.specs.declared.parser.command.Command.TheVariants.{Step}
 use Rattle.stream_script.specs.declared.parser.command.Parsed.TheVariants as parsed

@@ -1,4 +1,4 @@
-use Rattle.std.proofs.Common.{◌≡◌, ◌++◌, take}
+use Rattle.stream_script.proofs.Prelude.{◌≡◌, ◌++◌, take}
 use Rattle.stream_script.specs.Pieces.{escaped}
 use Rattle.stream_script.proofs.printer.parts.push_escaped.Given as goal
 

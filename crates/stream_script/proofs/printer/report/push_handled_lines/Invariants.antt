@@ -1,6 +1,4 @@
-use Rattle.std.proofs.Common.{◌≡◌, ◌++◌, take}
-use Rattle.std.specs.List.{flat_map}
-use Rattle.stream_ident.specs.Event.{events_at}
+use Rattle.stream_script.proofs.Prelude.{◌≡◌, ◌++◌, take, flat_map, events_at}
 use Rattle.stream_script.specs.Report.{handled_line}
 use Rattle.stream_script.proofs.printer.report.push_handled_lines.Given as goal
 

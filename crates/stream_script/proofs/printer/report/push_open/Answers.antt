@@ -1,9 +1,6 @@
-use Rattle.std.proofs.Common.{◌≡◌, ◌++◌, ◌∷◌, [], length, ap, refl, sym}
-use Rattle.std.proofs.lemmas.List.{length-map}
-use Rattle.std.specs.Fmt.{decimal}
-use Rattle.std.specs.List.{flat_map}
+use Rattle.stream_script.proofs.Prelude.{◌≡◌, ◌++◌, length, ap, sym, length-map, decimal, flat_map, events_at, no_event}
+use Rattle.std.proofs.Common.{◌∷◌, [], refl}
 use Rattle.std.specs.Prelude.{get_or}
-use Rattle.stream_ident.specs.Event.{events_at, no_event}
 use Rattle.stream_script.specs.Report.{binding_text, handled_line}
 use Rattle.stream_script.proofs.Texts.{appended, writes_then}
 use Rattle.stream_script.proofs.printer.report.push_open.Goals as goal

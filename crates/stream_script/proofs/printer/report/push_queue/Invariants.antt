@@ -1,5 +1,4 @@
-use Rattle.std.proofs.Common.{◌≡◌, ◌++◌, take}
-use Rattle.std.specs.List.{flat_map}
+use Rattle.stream_script.proofs.Prelude.{◌≡◌, ◌++◌, take, flat_map}
 use Rattle.step_core.specs.Reads.{summaries_in_order}
 use Rattle.stream_script.specs.Report.{summary_text}
 use Rattle.stream_script.proofs.printer.report.push_queue.Given as goal

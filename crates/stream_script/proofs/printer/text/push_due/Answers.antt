@@ -1,4 +1,4 @@
-use Rattle.std.proofs.Common.{codes}
+use Rattle.stream_script.proofs.Prelude.{codes}
 use Rattle.stream_script.specs.Replies.{ack_text}
 use Rattle.stream_script.specs.Spelling.{name_text}
 use Rattle.stream_script.proofs.Texts.{writes_then, two_texts}

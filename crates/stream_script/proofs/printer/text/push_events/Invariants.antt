@@ -1,5 +1,4 @@
-use Rattle.std.proofs.Common.{◌≡◌, ◌++◌, take}
-use Rattle.std.specs.List.{flat_map}
+use Rattle.stream_script.proofs.Prelude.{◌≡◌, ◌++◌, take, flat_map}
 use Rattle.stream_script.specs.Replies.{event_text}
 use Rattle.stream_script.proofs.printer.text.push_events.Given as goal
 

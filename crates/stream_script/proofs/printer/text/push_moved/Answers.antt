@@ -1,6 +1,4 @@
-use Rattle.std.proofs.Common.{codes}
-use Rattle.std.specs.Fmt.{decimal}
-use Rattle.stream_ident.specs.Token.{token_text}
+use Rattle.stream_script.proofs.Prelude.{codes, decimal, token_text}
 use Rattle.stream_script.proofs.Texts.{writes_then, two_texts}
 use Rattle.stream_script.proofs.printer.text.push_moved.Goals as goal
 

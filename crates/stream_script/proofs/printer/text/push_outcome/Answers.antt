@@ -1,7 +1,4 @@
-use Rattle.std.proofs.Common.{◌≡◌, ◌++◌, ◌∙◌, ap, codes, subst, sym}
-use Rattle.std.specs.Fmt.{decimal}
-use Rattle.std.specs.List.{flat_map}
-use Rattle.stream_ident.specs.Event.{events_at}
+use Rattle.stream_script.proofs.Prelude.{◌≡◌, ◌++◌, ◌∙◌, ap, codes, subst, sym, decimal, flat_map, events_at}
 use Rattle.step_core.specs.Replied.{reply_with}
 use Rattle.stream_script.specs.Replies.{event_text, reply_text}
 use Rattle.stream_script.specs.Spelling.{name_text}

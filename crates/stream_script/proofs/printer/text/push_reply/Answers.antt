@@ -1,4 +1,4 @@
-use Rattle.std.proofs.Common.{subst}
+use Rattle.stream_script.proofs.Prelude.{subst}
 use Rattle.stream_model.proofs.Retyping.{with-same}
 use Rattle.stream_script.specs.Replies.{reply_text}
 use Rattle.stream_script.specs.Writing.{Writes}

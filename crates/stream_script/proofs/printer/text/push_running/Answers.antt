@@ -1,5 +1,5 @@
-use Rattle.std.proofs.Common.{codes, refl}
-use Rattle.std.specs.Fmt.{decimal}
+use Rattle.stream_script.proofs.Prelude.{codes, decimal}
+use Rattle.std.proofs.Common.{refl}
 use Rattle.stream_script.specs.Spelling.{name_text}
 use Rattle.stream_script.proofs.Texts.{appended, writes_then, three_texts}
 use Rattle.stream_script.proofs.printer.text.push_running.Goals as goal

@@ -1,6 +1,4 @@
-use Rattle.std.proofs.Common.{◌++◌, codes}
-use Rattle.std.specs.Fmt.{decimal}
-use Rattle.std.specs.List.{flat_map}
+use Rattle.stream_script.proofs.Prelude.{◌++◌, codes, decimal, flat_map}
 use Rattle.stream_script.specs.Replies.{event_text}
 use Rattle.stream_script.specs.Spelling.{name_text}
 use Rattle.stream_script.proofs.Texts.{writes_then, text_then}

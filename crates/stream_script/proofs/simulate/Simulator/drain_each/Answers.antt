@@ -1,5 +1,4 @@
-use Rattle.stream_model.specs.Positions.{empty}
-use Rattle.std.proofs.Common.{◌∙◌, ap, ◌<◌, length, arith}
+use Rattle.stream_script.proofs.Prelude.{◌∙◌, ap, ◌<◌, length, arith, empty}
 use Rattle.stream_script.specs.declared.simulate.SimConfig.{SimConfig}
 use Rattle.stream_script.proofs.DrainLemmas.{drained_more}
 use Rattle.stream_script.proofs.simulate.Simulator.drain_each.Goals as goal

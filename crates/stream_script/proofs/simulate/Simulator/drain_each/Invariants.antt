@@ -1,4 +1,4 @@
-use Rattle.std.proofs.Common.{◌≡◌}
+use Rattle.stream_script.proofs.Prelude.{◌≡◌}
 use Rattle.stream_script.proofs.DrainLemmas.{DrainedSoFar}
 use Rattle.stream_script.proofs.simulate.Simulator.drain_each.Given as goal
 

@@ -1,6 +1,5 @@
-use Rattle.std.proofs.Common.{◌≡◌}
+use Rattle.stream_script.proofs.Prelude.{◌≡◌, empty}
 use Rattle.std.specs.Prelude.{replicate}
-use Rattle.stream_model.specs.Positions.{empty}
 use Rattle.stream_script.proofs.simulate.Simulator.new.Given as goal
 
 abbrev pub invariant-loop : goal.invariant-loop

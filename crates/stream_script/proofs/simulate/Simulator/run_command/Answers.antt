@@ -1,4 +1,5 @@
-use Rattle.std.proofs.Common.{◌≡◌, Bool, Result, Ok, subst}
+use Rattle.stream_script.proofs.Prelude.{◌≡◌, Result, subst}
+use Rattle.std.proofs.Common.{Bool, Ok}
 use Rattle.stream_script.specs.declared.parser.command.Command.{Command}
 use Rattle.stream_script.specs.declared.parser.command.Command.TheVariants.{Step}
 use Rattle.stream_script.specs.declared.parser.command.Fault.{Fault}

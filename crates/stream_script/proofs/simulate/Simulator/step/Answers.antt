@@ -1,5 +1,4 @@
-use Rattle.stream_model.specs.Positions.{empty}
-use Rattle.std.proofs.Common.{◌<◌, length, arith}
+use Rattle.stream_script.proofs.Prelude.{◌<◌, length, arith, empty}
 use Rattle.stream_script.proofs.SimulatorLemmas.{steps}
 use Rattle.stream_script.proofs.simulate.Simulator.step.Goals as goal
 

@@ -1,4 +1,4 @@
-use Rattle.std.proofs.Common.{◌≡◌}
+use Rattle.stream_script.proofs.Prelude.{◌≡◌}
 use Rattle.stream_script.specs.Forms.{op_of}
 use Rattle.stream_script.proofs.SimulatorLemmas.{EachSoFar}
 use Rattle.stream_script.proofs.simulate.Simulator.step_each.Given as goal

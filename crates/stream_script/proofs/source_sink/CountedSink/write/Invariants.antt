@@ -1,5 +1,4 @@
-use Rattle.std.proofs.Common.{◌≡◌}
-use Rattle.std.specs.Io.KnownBytes.{Keeps}
+use Rattle.stream_script.proofs.Prelude.{◌≡◌, Keeps}
 use Rattle.stream_script.proofs.source_sink.CountedSink.write.Given as goal
 
 abbrev pub invariant-loop : goal.invariant-loop
