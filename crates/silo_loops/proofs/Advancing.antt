@@ -1,23 +1,16 @@
 -- What a step leaves, put together.
-use Rattle.std.proofs.Common.{◌≡◌, ℕ, ◌+◌, ◌<◌, ◌≤◌, ◌⊎◌, inl, inr, List, [], ◌∷◌, All, length, map, Option, Some, None, Result, refl, sym, ap, subst, ◌∙◌, arith}
+use Rattle.silo_loops.proofs.Prelude.{◌≡◌, ℕ, ◌+◌, ◌<◌, ◌≤◌, ◌⊎◌, inl, inr, List, [], ◌∷◌, All, length, map, Option, Some, None, Result, refl, sym, ap, subst, ◌∙◌, arith, get_or_from_slice_get, none-some, slice_get, unwrap_or, Reply, Op, Refusal}
 use Rattle.std.proofs.Math.Seq.{map-set_same}
-use Rattle.std.specs.List.{slice_get}
-use Rattle.std.specs.Option.{unwrap_or}
 use Rattle.std.specs.Prelude.{IfNone}
-use Rattle.std.proofs.lemmas.Option.{get_or_from_slice_get, none-some}
-use Rattle.stream_model.specs.declared.op.Op.{Op}
-use Rattle.stream_model.specs.Replies.{Reply}
-use Rattle.turnstile.specs.declared.turnstile.Refusal.{Refusal}
 use Rattle.silo_loops.specs.declared.advance.Advance.{Advance}
 use Rattle.silo_loops.specs.declared.advance.Advance.TheVariants as advance
 use Rattle.silo_loops.specs.declared.advance.Over.{Over}
-use Rattle.silo_loops.specs.declared.advance.Over.TheVariants as over
 use Rattle.silo_loops.specs.declared.worker_walk.Step.TheVariants as step
 use Rattle.silo_loops.specs.Walks.{Nothing, Work, WorkerState, work_in}
 use Rattle.silo_loops.specs.Agents.{AgentAdvancesFrom, AgentCalls, AgentCounts, AgentState, AgentView, HasSamePlaces, OnesPulled, agent_of}
 use Rattle.silo_loops.specs.Answers.{advance_of, over_of}
 use Rattle.silo_loops.specs.Lines.{CallsAt, DirectoryPass, HasLooked, LineView, QueuePass, places, rested}
-use Rattle.silo_loops.specs.Workers.{Follows, IsBeside, worker_of, WorkerAdvancesFrom, WorkerAsks, WorkerCalls, WorkerCounts, WorkerLooks, WorkerRanOut, WorkerSteps, WorkerView, WorkerWorks}
+use Rattle.silo_loops.specs.Workers.{Follows, IsBeside, worker_of, WorkerAdvancesFrom, WorkerAsks, WorkerCalls, WorkerCounts, WorkerGoesOn, WorkerLooks, WorkerView, WorkerWorks}
 
 -- a call leaves each line at its turnstile
 places-called : (lines : List LineView) (at : ℕ) (op : Op) (result : Result Reply Refusal) (new : List LineView) → CallsAt lines at op result new → places new ≡ places lines
@@ -65,24 +58,21 @@ agent-beside None (advance.Over end) v w a =
 agent-beside (Some end) did v w a = ap (λ (u : AgentView). places u.lines) a.1
 
 -- what a step is, by the way that it was made
-pub steps-called : (follows : Follows) {v w : WorkerView} (over : Option Over) → WorkerCalls v w → WorkerSteps follows v w over
-steps-called follows None c = inl c
-steps-called follows (Some end) c = inl c
+pub steps-called : (follows : Follows) {v w : WorkerView} (over : Option Over) → WorkerCalls v w → w.over ≡ over → WorkerGoesOn follows (advance_of over) v w
+steps-called follows None c ends = (ends, inl c)
+steps-called follows (Some end) c ends = (ends, inl c)
 
-pub steps-asked : (follows : Follows) {v w : WorkerView} (over : Option Over) → WorkerAsks v w → WorkerSteps follows v w over
-steps-asked follows None a = inr (inl a)
-steps-asked follows (Some end) a = inr a
+pub steps-asked : (follows : Follows) {v w : WorkerView} (over : Option Over) → WorkerAsks v w → w.over ≡ over → WorkerGoesOn follows (advance_of over) v w
+steps-asked follows None a ends = (ends, inr (inl a))
+steps-asked follows (Some end) a ends = (ends, inr (inl a))
 
 module _ (follows : Follows) (v w : WorkerState) {rounds counted : ℕ} where
-  stepped : (over : Option Over) → WorkerSteps follows (worker_of v rounds None) (worker_of w counted over) over → WorkerCounts (worker_of v rounds None) (worker_of w counted over)
+  stepped : (over : Option Over) → WorkerGoesOn follows (advance_of over) (worker_of v rounds None) (worker_of w counted over) → WorkerCounts (worker_of v rounds None) (worker_of w counted over)
       → WorkerAdvancesFrom follows None (advance_of over) (worker_of v rounds None) (worker_of w counted (over_of (advance_of over)))
-  stepped None s counts = ((refl, s), counts)
-  stepped (Some end) s counts =
-      let from = worker_of v rounds None in
-      let to = worker_of w counted (Some end) in
-      ((refl, elim s as (λ s. WorkerCalls from to ⊎ (WorkerAsks from to ⊎ WorkerRanOut from to)) [ inl c ↦ inl c | inr a ↦ inr (inl a) ]), counts)
+  stepped None s counts = (s, counts)
+  stepped (Some end) s counts = (s, counts)
 
-  pub goes-on : {answer : Advance} (over : Option Over) → answer ≡ advance_of over → WorkerSteps follows (worker_of v rounds None) (worker_of w counted over) over → WorkerCounts (worker_of v rounds None) (worker_of w counted over)
+  pub goes-on : {answer : Advance} (over : Option Over) → answer ≡ advance_of over → WorkerGoesOn follows (advance_of over) (worker_of v rounds None) (worker_of w counted over) → WorkerCounts (worker_of v rounds None) (worker_of w counted over)
       → WorkerAdvancesFrom follows None answer (worker_of v rounds None) (worker_of w counted (over_of answer))
   goes-on over says s counts = subst (λ a. WorkerAdvancesFrom follows None a (worker_of v rounds None) (worker_of w counted (over_of a))) (sym says) (stepped over s counts)
 
@@ -107,7 +97,7 @@ module _ (follows : Follows) (v : WorkerState) (rounds : ℕ) (rests : v.step �
       → ((rounds counted : ℕ) → WorkerLooks (worker_of u rounds None) (worker_of w counted over)) → WorkerAdvancesFrom follows None answer (worker_of v rounds None) (worker_of w counted (over_of answer))
   round-begun {u} w {counted} over is more says looks =
       let looked = subst (λ x. WorkerLooks x (worker_of w counted over)) (same-at is) (looks rounds counted) in
-      goes-on follows v w {rounds = rounds} {counted = counted} over says (steps-called follows over looked.0) (inr (more, looked))
+      goes-on follows v w {rounds = rounds} {counted = counted} over says (steps-called follows over looked.0 refl) (inr (more, looked))
 
 pub beside-after : (u v w : WorkerView) → IsBeside u v → IsBeside v w → IsBeside u w
 beside-after u v w a b = record { lines = b.lines ∙ a.lines; directory = b.directory ∙ a.directory }

@@ -1,17 +1,9 @@
 -- Why a loop has ended.
-use Rattle.std.proofs.Common.{◌≡◌, inl, inr, Option, Some, None, Result, Ok, Err, refl, sym, ap, subst, ◌∙◌}
-use Rattle.std.specs.List.{slice_get}
-use Rattle.std.specs.Option.{unwrap_or}
-use Rattle.std.proofs.lemmas.Option.{none-some}
-use Rattle.stream_model.specs.Replies.{Reply}
+use Rattle.silo_loops.proofs.Prelude.{DirectoryReply, after, replied, ◌≡◌, inl, inr, Option, Some, None, Result, Ok, Err, refl, sym, ap, subst, ◌∙◌, slice_get, Reply, PassView, Refusal}
 use Rattle.stream_model.specs.declared.reply.Reply.TheVariants as reply
-use Rattle.activation_directory.specs.declared.reply.DirectoryReply.{DirectoryReply}
 use Rattle.activation_directory.specs.declared.reply.DirectoryReply.TheVariants as directory
 use Rattle.shared_partition.specs.Directories as places
-use Rattle.shared_partition.specs.Partitions.{after, replied}
-use Rattle.turnstile.specs.declared.turnstile.Refusal.{Refusal}
 use Rattle.turnstile.specs.declared.turnstile.Refusal.TheVariants as refusal
-use Rattle.turnstile.specs.Passes.{PassView}
 use Rattle.silo_loops.specs.declared.advance.Advance.{Advance}
 use Rattle.silo_loops.specs.declared.advance.Advance.TheVariants as advance
 use Rattle.silo_loops.specs.declared.advance.Over.{Over}
@@ -23,73 +15,57 @@ use Rattle.silo_loops.specs.Workers.{Follows, WorkerAdvancesFrom, WorkerAsks, Wo
 use Rattle.silo_loops.proofs.Owning.{last-answered}
 use Rattle.silo_loops.proofs.Working.{get-set}
 
--- a refusal doesn't end a loop for want of rounds
-refused-rounds : (e : Refusal) → Some (end_by e) ≡ Some over.Rounds → ⊥
-refused-rounds refusal.HistoryFull is = let differ : over.Limit ≡ over.Rounds = ap (λ o. unwrap_or o over.Limit) is in absurd (cc (differ))
-refused-rounds refusal.Memory is = let differ : over.Memory ≡ over.Rounds = ap (λ o. unwrap_or o over.Memory) is in absurd (cc (differ))
-
-limit-rounds : Some over.Limit ≡ Some over.Rounds → ⊥
-limit-rounds is = let differ : over.Limit ≡ over.Rounds = ap (λ o. unwrap_or o over.Limit) is in absurd (cc (differ))
-
--- nor does an answer
+-- an answer doesn't end a loop for want of rounds
 called-rounds : (result : Result Reply Refusal) → end_of result ≡ Some over.Rounds → ⊥
-called-rounds (Ok reply.TooMany) is = limit-rounds is
-called-rounds (Ok reply.Spent) is = limit-rounds is
-called-rounds (Ok _) is = none-some over.Rounds is
-called-rounds (Err e) is = refused-rounds e is
+called-rounds (Ok reply.TooMany) is = cc
+called-rounds (Err refusal.Memory) is = cc
+called-rounds _ is = cc
 
 asked-rounds : (result : Result DirectoryReply Refusal) → end_of_asking result ≡ Some over.Rounds → ⊥
-asked-rounds (Ok directory.Spent) is = limit-rounds is
-asked-rounds (Ok _) is = none-some over.Rounds is
-asked-rounds (Err e) is = refused-rounds e is
+asked-rounds (Ok directory.Spent) is = cc
+asked-rounds (Err refusal.Memory) is = cc
+asked-rounds _ is = cc
 
 -- a call that ends a loop at a limit
 module _ {S O R : Type 0} (reply : S → O → R) (after : S → O → S) (end : Result R Refusal → Option Over) (refuses : (e : Refusal) → end (Err e) ≡ Some (end_by e)) where
   at-limit : (p : PassView O R S) (op : O) (result : Result R Refusal) (q : PassView O R S) → CallsBy reply after p op result q → end result ≡ Some over.Limit → IsAtLimit end q
   at-limit p op (Ok r) q calls ended = inl (op, r, last-answered reply after p op r q calls, ended)
   at-limit p op (Err refusal.HistoryFull) q calls ended = inr (calls.origin, ap (λ (w : PassView O R S). w.turnstile) calls.only ∙ calls.of, calls.call.4)
-  at-limit p op (Err refusal.Memory) q calls ended =
-      let differ : over.Memory ≡ over.Limit = ap (λ o. unwrap_or o over.Memory) (sym (refuses refusal.Memory) ∙ ended) in
-      absurd (cc (differ))
+  at-limit p op (Err refusal.Memory) q calls ended = absurd (cc (refuses refusal.Memory, ended))
 
 agent-called : (end : Option Over) (v w : AgentView) → (c : AgentCalls v w) → end ≡ end_of c.result → AgentEndsBy end w
-agent-called None v w c is = tt
 agent-called (Some over.Rounds) v w c is = absurd (called-rounds c.result (sym is))
 agent-called (Some over.Limit) v w c is =
     (c.at, c.calls.is, ap (λ ls. slice_get ls c.at) c.calls.whole ∙ get-set v.lines c.at c.calls.was c.calls.is c.calls.had, at-limit replied after end_of (λ e. refl) c.calls.was.pass c.op c.result c.calls.is.pass c.calls.calls.call (sym is))
-agent-called (Some over.Memory) v w c is = tt
+agent-called _ v w c is = tt
 
 -- a step that ends an agent has a cause
 pub agent-cause : (from : Option Over) (did : Advance) (v w : AgentView) → AgentHasCause v → AgentAdvancesFrom from did v w → AgentHasCause w
-agent-cause None advance.Did v w cause a = subst (λ o. AgentEndsBy o w) (sym a.0.0) tt
-agent-cause None advance.Idle v w cause a = subst (λ o. AgentEndsBy o w) (sym a.0.0) tt
 agent-cause None (advance.Over end) v w cause a =
     elim (a.0.1) as (λ s. AgentHasCause w) [
       | inl c ↦ agent-called w.over v w c c.over
       | inr k ↦ subst (λ (u : AgentView). AgentHasCause u) (sym k.ended) k.none
     ]
+agent-cause None _ v w cause a = subst (λ o. AgentEndsBy o w) (sym a.0.0) tt
 agent-cause (Some end) did v w cause a = subst (λ (u : AgentView). AgentHasCause u) (sym a.1) cause
 
 worker-called : (end : Option Over) (v w : WorkerView) → (c : WorkerCalls v w) → end ≡ end_of c.result → WorkerEndsBy end w
-worker-called None v w c is = tt
 worker-called (Some over.Rounds) v w c is = absurd (called-rounds c.result (sym is))
 worker-called (Some over.Limit) v w c is =
     inl (c.at, c.calls.is, ap (λ ls. slice_get ls c.at) c.calls.whole ∙ get-set v.lines c.at c.calls.was c.calls.is c.calls.had, at-limit replied after end_of (λ e. refl) c.calls.was.pass c.op c.result c.calls.is.pass c.calls.calls.call (sym is))
-worker-called (Some over.Memory) v w c is = tt
+worker-called _ v w c is = tt
 
 worker-asked : (end : Option Over) (v w : WorkerView) → (a : WorkerAsks v w) → end ≡ end_of_asking a.result → WorkerEndsBy end w
-worker-asked None v w a is = tt
 worker-asked (Some over.Rounds) v w a is = absurd (asked-rounds a.result (sym is))
 worker-asked (Some over.Limit) v w a is = inr (at-limit places.replied places.after end_of_asking (λ e. refl) v.directory a.op a.result w.directory a.calls.call (sym is))
-worker-asked (Some over.Memory) v w a is = tt
+worker-asked _ v w a is = tt
 
 -- a step that ends a worker has a cause
 pub worker-cause : (follows : Follows) (from : Option Over) (did : Advance) (v w : WorkerView) → WorkerHasCause v → WorkerAdvancesFrom follows from did v w → WorkerHasCause w
-worker-cause follows None advance.Did v w cause a = subst (λ o. WorkerEndsBy o w) (sym a.0.0) tt
-worker-cause follows None advance.Idle v w cause a = subst (λ o. WorkerEndsBy o w) (sym a.0.0) tt
 worker-cause follows None (advance.Over end) v w cause a =
     elim (a.0.1) as (λ s. WorkerHasCause w) [
       | inl c ↦ worker-called w.over v w c c.over
       | inr s ↦ elim s as (λ s. WorkerHasCause w) [ inl q ↦ worker-asked w.over v w q q.over | inr k ↦ subst (λ (u : WorkerView). WorkerHasCause u) (sym k.0) k.1 ]
     ]
+worker-cause follows None _ v w cause a = subst (λ o. WorkerEndsBy o w) (sym a.0.0) tt
 worker-cause follows (Some end) did v w cause a = subst (λ (u : WorkerView). WorkerHasCause u) (sym a.1) cause

@@ -1,6 +1,5 @@
 -- What holds of each of one list and of the one at its place in another, which has as many or more.
-use Rattle.std.proofs.Common.{◌≡◌, ◌<◌, ◌≤◌, List, [], ◌∷◌, ◌++◌, length, get_or, set, arith}
-use Rattle.std.specs.List.{AllZip}
+use Rattle.silo_loops.proofs.Prelude.{◌≡◌, ◌<◌, ◌≤◌, List, [], ◌∷◌, ◌++◌, length, get_or, set, arith, AllZip}
 use Rattle.silo_loops.specs.Fronts.{AllZipFront}
 
 module _ {A B : Type 0} (R : A → B → Type 0) where

@@ -1,19 +1,13 @@
 -- Passes that go on, and the lines that have them.
-use Rattle.std.proofs.Common.{◌≡◌, ℕ, zero, suc, ◌<◌, ◌≤◌, ◌+◌, List, [], ◌∷◌, ◌++◌, length, get_or, set, Contains, Option, refl, sym, ap, subst, ◌∙◌, append_assoc, arith}
-use Rattle.std.proofs.lemmas.List.{append-nil, get_or-set_same, length-map, length-set, length_push, set-get_or}
-use Rattle.std.proofs.lemmas.List.Elements.{Contains-append_left}
-use Rattle.std.specs.List.{AllByRecursion, AllZip}
-use Rattle.turnstile.specs.declared.history.Entry.{Entry}
-use Rattle.turnstile.specs.Calls.{Agree, HasOnlyMade, joined_pass, numbers_of}
-use Rattle.turnstile.specs.History.{Foreign}
-use Rattle.turnstile.specs.Passes.{Origin, PassView}
+use Rattle.silo_loops.proofs.Prelude.{◌≡◌, ℕ, zero, suc, ◌<◌, ◌≤◌, ◌+◌, List, [], ◌∷◌, ◌++◌, length, get_or, set, Contains, Option, refl, sym, ap, subst, ◌∙◌, append_assoc, arith, append-nil, get_or-set_same, length-map, length-set, length_push, set-get_or, AllZip-get_or, Contains-append_left, AllByRecursion, AllZip, Agree, HasOnlyMade, joined_pass, numbers_of, Foreign, Origin, PassView, Entry}
+use Rattle.std.proofs.lemmas.Slice.Zip.{AllZip-long}
 use Rattle.turnstile.proofs.Histories.{foreign-append}
 use Rattle.stream_model.specs.declared.plain.PlainPartition.{PlainPartition}
 use Rattle.silo_loops.specs.Lines.{DirectoryPass, LineView, places}
 use Rattle.silo_loops.specs.Chains.{Stays}
 use Rattle.silo_loops.specs.Workers.{Follows, WorkerView}
 use Rattle.silo_loops.specs.Fronts.{AllZipFront}
-use Rattle.silo_loops.specs.Silos.{AreAlike, AreSilent, AreTakenIn, GoOn, GoesOn, HasRun, HasTakenIn, IsMarked, IsSilent, IsSplitLine, IsSplitWorker, LineGoesOn, LineIsSilent, SiloView, joined_line, joined_lines}
+use Rattle.silo_loops.specs.Silos.{AreAlike, AreSilent, AreTakenIn, GoOn, GoesOn, HasRun, HasTakenIn, IsMarked, IsSilent, IsSplitLine, IsSplitWorker, IsWorkerAt, LineGoesOn, LineIsSilent, SiloView, joined_line, joined_lines}
 use Rattle.silo_loops.specs.Passes.{IsOtherIn}
 use Rattle.silo_loops.proofs.Taking.{alone-append, alone-fewer, alone-foreign, taken-joined, taken-on}
 use Rattle.silo_loops.proofs.Fronts.{front-all, front-fits, front-last, front-push, front-set, front-weaker}
@@ -40,10 +34,6 @@ module _ {O R S : Type 0} where
         seen = b.seen ∙ ap (λ (es : List (Entry O R)). es ++ b.more) a.seen ∙ append_assoc p.seen a.more b.more;
         alone = alone-append p a.more b.more a.alone (alone-fewer p q b.more a.numbers a.number b.alone);
       }
-
-  pub on-made : (p q : PassView O R S) → HasOnlyMade p q → GoesOn p q
-  on-made p q made =
-      subst (λ (w : PassView O R S). GoesOn p w) (sym made.0) (record { turnstile = refl; number = refl; numbers = λ k here. here; more = []; seen = sym (append-nil p.seen); alone = tt })
 
   abbrev pub on-joined : (p q r : PassView O R S) → r ≡ joined_pass p q → Agree p q r → GoesOn p r
   on-joined p q r is agree =
@@ -87,59 +77,61 @@ module _ {O R S : Type 0} where
   pub silent-joined : (p q r : PassView O R S) → r ≡ joined_pass p q → Agree p q r → IsSilent p r
   silent-joined p q r is agree = record { on = on-joined p q r is agree; foreign = foreign-first p.number p.joined agree.0.rest agree.0.foreign }
 
+-- what holds of each element and itself, and of one element and a third where it does of each and the second
+module _ {A : Type 0} (R : A → A → Type 0) where
+  zip-refl : ((x : A) → R x x) → (xs : List A) → AllZip R xs xs
+  zip-refl same [] = tt
+  zip-refl same (x ∷ xs) = (same x, zip-refl same xs)
+
+  zip-set : ((x : A) → R x x) → (xs : List A) (at : ℕ) (d y : A) → at < length xs → R (get_or xs at d) y → AllZip R xs (set xs at y)
+  zip-set same [] at d y less one = absurd (omega arith)
+  zip-set same (x ∷ xs) zero d y less one = (one, zip-refl same xs)
+  zip-set same (x ∷ xs) (suc at) d y less one = (same x, zip-set same xs at d y (omega arith) one)
+
+  zip-trans : ((x y z : A) → R x y → R y z → R x z) → (xs ys zs : List A) → AllZip R xs ys → AllZip R ys zs → AllZip R xs zs
+  zip-trans on [] [] [] a b = tt
+  zip-trans on [] [] (z ∷ zs) a b = absurd b
+  zip-trans on [] (y ∷ ys) zs a b = absurd a
+  zip-trans on (x ∷ xs) [] zs a b = absurd a
+  zip-trans on (x ∷ xs) (y ∷ ys) [] a b = absurd b
+  zip-trans on (x ∷ xs) (y ∷ ys) (z ∷ zs) a b = (on x y z a.0 b.0, zip-trans on xs ys zs a.1 b.1)
+
 pub silents-refl : (ls : List LineView) → AreSilent ls ls
-silents-refl [] = tt
-silents-refl (l ∷ ls) = (silent-refl l.pass, silents-refl ls)
+silents-refl ls = zip-refl LineIsSilent (λ l. silent-refl l.pass) ls
 
 pub silents-trans : (ls ms ns : List LineView) → AreSilent ls ms → AreSilent ms ns → AreSilent ls ns
-silents-trans [] [] [] a b = tt
-silents-trans [] [] (n ∷ ns) a b = absurd b
-silents-trans [] (m ∷ ms) ns a b = absurd a
-silents-trans (l ∷ ls) [] ns a b = absurd a
-silents-trans (l ∷ ls) (m ∷ ms) [] a b = absurd b
-silents-trans (l ∷ ls) (m ∷ ms) (n ∷ ns) a b = (silent-trans l.pass m.pass n.pass a.0 b.0, silents-trans ls ms ns a.1 b.1)
+silents-trans ls ms ns a b = zip-trans LineIsSilent (λ l m n. silent-trans l.pass m.pass n.pass) ls ms ns a b
 
 -- one line more makes no call
 pub silents-set : (old now : List LineView) (at : ℕ) (l m : LineView) → at < length now → l ≡ get_or now at l → LineIsSilent l m → AreSilent old now → AreSilent old (set now at m)
-silents-set [] [] at l m within read one all = absurd (omega arith)
-silents-set [] (y ∷ ys) at l m within read one all = absurd all
-silents-set (x ∷ xs) [] at l m within read one all = absurd all
-silents-set (x ∷ xs) (y ∷ ys) zero l m within read one all = (silent-trans x.pass y.pass m.pass all.0 (subst (λ (w : LineView). LineIsSilent w m) read one), all.1)
-silents-set (x ∷ xs) (y ∷ ys) (suc at) l m within read one all = (all.0, silents-set xs ys at l m (omega arith) read one all.1)
+silents-set old now at l m within read one all =
+    silents-trans old now (set now at m) all (zip-set LineIsSilent (λ l. silent-refl l.pass) now at l m within (subst (λ (w : LineView). LineIsSilent w m) read one))
 
 pub goes-refl : (ls : List LineView) → GoOn ls ls
-goes-refl [] = tt
-goes-refl (l ∷ ls) = (on-refl l.pass, goes-refl ls)
+goes-refl ls = zip-refl LineGoesOn (λ l. on-refl l.pass) ls
 
 pub goes-same : (ls ms : List LineView) → ms ≡ ls → GoOn ls ms
 goes-same ls ms same = subst (λ (es : List LineView). GoOn ls es) (sym same) (goes-refl ls)
 
 pub goes-trans : (ls ms ns : List LineView) → GoOn ls ms → GoOn ms ns → GoOn ls ns
-goes-trans [] [] [] a b = tt
-goes-trans [] [] (n ∷ ns) a b = absurd b
-goes-trans [] (m ∷ ms) ns a b = absurd a
-goes-trans (l ∷ ls) [] ns a b = absurd a
-goes-trans (l ∷ ls) (m ∷ ms) [] a b = absurd b
-goes-trans (l ∷ ls) (m ∷ ms) (n ∷ ns) a b = (on-trans l.pass m.pass n.pass a.0 b.0, goes-trans ls ms ns a.1 b.1)
+goes-trans ls ms ns a b = zip-trans LineGoesOn (λ l m n. on-trans l.pass m.pass n.pass) ls ms ns a b
 
 -- one line goes on
 pub goes-set : (ls : List LineView) (at : ℕ) (d m : LineView) → at < length ls → LineGoesOn (get_or ls at d) m → GoOn ls (set ls at m)
-goes-set [] at d m less on = absurd (omega arith)
-goes-set (l ∷ ls) zero d m less on = (on, goes-refl ls)
-goes-set (l ∷ ls) (suc at) d m less on = (on-refl l.pass, goes-set ls at d m (omega arith) on)
+goes-set ls at d m less on = zip-set LineGoesOn (λ l. on-refl l.pass) ls at d m less on
+
+zip-places : (R : LineView → LineView → Type 0) → ((l m : LineView) → R l m → AreAlike l m) → (ls ms : List LineView) → AllZip R ls ms → places ms ≡ places ls
+zip-places R alike [] [] all = refl
+zip-places R alike [] (m ∷ ms) all = absurd all
+zip-places R alike (l ∷ ls) [] all = absurd all
+zip-places R alike (l ∷ ls) (m ∷ ms) all = ap (λ t. t ∷ places ms) (alike l m all.0) ∙ ap (λ ts. l.pass.turnstile ∷ ts) (zip-places R alike ls ms all.1)
 
 -- lines that go on are at their turnstiles
 pub goes-places : (ls ms : List LineView) → GoOn ls ms → places ms ≡ places ls
-goes-places [] [] on = refl
-goes-places [] (m ∷ ms) on = absurd on
-goes-places (l ∷ ls) [] on = absurd on
-goes-places (l ∷ ls) (m ∷ ms) on = ap (λ t. t ∷ places ms) on.0.turnstile ∙ ap (λ ts. l.pass.turnstile ∷ ts) (goes-places ls ms on.1)
+goes-places ls ms on = zip-places LineGoesOn (λ l m goes. goes.turnstile) ls ms on
 
 pub goes-length : (ls ms : List LineView) → GoOn ls ms → length ms ≡ length ls
-goes-length [] [] on = refl
-goes-length [] (m ∷ ms) on = absurd on
-goes-length (l ∷ ls) [] on = absurd on
-goes-length (l ∷ ls) (m ∷ ms) on = ap (λ n. suc n) (goes-length ls ms on.1)
+goes-length ls ms on = AllZip-long LineGoesOn ls ms on
 
 pub front-alike : (ls ms : List LineView) → places ms ≡ places ls → AllZipFront AreAlike ls ms
 front-alike ls [] same = tt
@@ -153,22 +145,13 @@ split-alike : (l m : LineView) → IsSplitLine l m → AreAlike l m
 split-alike l m split = ap (λ w. w.turnstile) split.0.0
 
 pub split-places : (ls ms : List LineView) → AllZip IsSplitLine ls ms → places ms ≡ places ls
-split-places [] [] all = refl
-split-places [] (m ∷ ms) all = absurd all
-split-places (l ∷ ls) [] all = absurd all
-split-places (l ∷ ls) (m ∷ ms) all = ap (λ t. t ∷ places ms) (split-alike l m all.0) ∙ ap (λ ts. l.pass.turnstile ∷ ts) (split-places ls ms all.1)
+split-places ls ms all = zip-places IsSplitLine split-alike ls ms all
 
 pub split-marked : (ls ms : List LineView) → AllZip IsSplitLine ls ms → AllByRecursion IsMarked ms
 split-marked [] [] all = tt
 split-marked [] (m ∷ ms) all = absurd all
 split-marked (l ∷ ls) [] all = absurd all
 split-marked (l ∷ ls) (m ∷ ms) all = (all.0.1, split-marked ls ms all.1)
-
-pub split-length : (ls ms : List LineView) → AllZip IsSplitLine ls ms → length ms ≡ length ls
-split-length [] [] all = refl
-split-length [] (m ∷ ms) all = absurd all
-split-length (l ∷ ls) [] all = absurd all
-split-length (l ∷ ls) (m ∷ ms) all = ap (λ n. suc n) (split-length ls ms all.1)
 
 -- a loop that joins each of the others to the one at its place, from the last one on
 pub join-next : (ls ms rest : List LineView) (at : ℕ) (l m : LineView) → ms ≡ rest ++ m ∷ [] → at ≡ length rest → AllZipFront AreAlike ls ms → (at < length ls) × (l ≡ get_or ls at l → AreAlike l m)
@@ -182,25 +165,6 @@ joined-last : (ls ms : List LineView) (d m : LineView) → length ms < length ls
 joined-last [] ms d m less = absurd (omega arith)
 joined-last (l ∷ ls) [] d m less = refl
 joined-last (l ∷ ls) (x ∷ ms) d m less = ap (λ (es : List LineView). joined_line l x ∷ es) (joined-last ls ms d m (omega arith))
-
--- what is left to be joined leads to the same
-pub joined-more : (ls ms rest new all : List LineView) (at : ℕ) (l m w : LineView) → ms ≡ rest ++ m ∷ [] → at ≡ length rest → AllZipFront AreAlike ls ms → l ≡ get_or ls at l → w ≡ joined_line l m → new ≡ set ls at w → joined_lines ls ms ≡ all → joined_lines new rest ≡ all
-joined-more ls ms rest new all at l m w is here alike read made put joined =
-    let last = front-last AreAlike ls rest l m (subst (λ (es : List LineView). AllZipFront AreAlike ls es) is alike) in
-    let this : w ≡ joined_line (get_or ls (length rest) l) m = made ∙ ap (λ (v : LineView). joined_line v m) (read ∙ ap (λ n. get_or ls n l) here) in
-    ap (λ (es : List LineView). joined_lines es rest) (put ∙ ap (λ n. set ls n w) here ∙ ap (λ (v : LineView). set ls (length rest) v) this)
-    ∙ sym (joined-last ls rest l m last.0) ∙ ap (λ (es : List LineView). joined_lines ls es) (sym is) ∙ joined
-
-pub join-more : (old ls ms rest new : List LineView) (at : ℕ) (l m w : LineView) → ms ≡ rest ++ m ∷ [] → at ≡ length rest → AllZipFront AreAlike ls ms → l ≡ get_or ls at l → w ≡ record l { pass = joined_pass l.pass m.pass } → Agree l.pass m.pass w.pass
-    → new ≡ set ls at w → GoOn old ls → AllZipFront AreAlike new rest × GoOn old new
-join-more old ls ms rest new at l m w is here all read made agree put on =
-    let last = front-last AreAlike ls rest l m (subst (λ (es : List LineView). AllZipFront AreAlike ls es) is all) in
-    let less : length rest < length ls = last.0 in
-    let whole : new ≡ set ls (length rest) w = put ∙ ap (λ n. set ls n w) here in
-    let goes : LineGoesOn l w = on-joined l.pass m.pass w.pass (ap (λ (v : LineView). v.pass) made) agree in (
-      subst (λ (es : List LineView). AllZipFront AreAlike es rest) (sym whole) (front-set AreAlike ls rest w last.2),
-      goes-trans old ls new on (subst (λ (es : List LineView). GoOn ls es) (sym put) (goes-set ls at l w (omega arith) (subst (λ (v : LineView). LineGoesOn v w) read goes))),
-    )
 
 -- a loop that splits each, from the first one on
 pub split-more : (old now fresh made more : List LineView) (at : ℕ) (l m new : LineView) → at < length old → now ≡ old → length made ≡ at → AllZipFront IsSplitLine old made → l ≡ get_or now at l → m ≡ l → fresh ≡ set now at m
@@ -221,7 +185,7 @@ refused-alike old now fresh made at m same here all put =
 
 pub refused-on : (old now fresh : List LineView) (at : ℕ) (l m : LineView) → at < length old → now ≡ old → l ≡ get_or now at l → HasOnlyMade l.pass m.pass → fresh ≡ set now at m → GoOn old fresh
 refused-on old now fresh at l m within same read made put =
-    let goes = on-made l.pass m.pass made in
+    let goes = (silent-made l.pass m.pass made).on in
     subst (λ (es : List LineView). GoOn old es) (sym (put ∙ ap (λ (es : List LineView). set es at m) same))
     (goes-set old at l m within (subst (λ (v : LineView). LineGoesOn v m) (read ∙ ap (λ (es : List LineView). get_or es at l) same) goes))
 
@@ -243,9 +207,13 @@ split-same old new d e w same split =
 pub still-at : (others ls ms : List LineView) → places others ≡ places ls → GoOn ls ms → places others ≡ places ms
 still-at others ls ms at on = at ∙ sym (goes-places ls ms on)
 
+-- and so is what a worker has
+pub worker-still : (ls ms : List LineView) (d e : DirectoryPass) (w : WorkerView) → IsWorkerAt ls d w → GoOn ls ms → IsSilent d e → IsWorkerAt ms e w
+worker-still ls ms d e w at on silent = (still-at w.lines ls ms at.0 on, at.1 ∙ sym silent.on.turnstile)
+
 pub split-fresh : (old own : List LineView) → AllZip IsSplitLine old own → (0 < length old) → (0 < length own) × AllByRecursion IsMarked own
 split-fresh old own split some =
-    let long = split-length old own split in
+    let long = AllZip-long IsSplitLine old own split in
     (omega (arith, long), split-marked old own split)
 
 pub goes-some : (ls ms : List LineView) → GoOn ls ms → 0 < length ls → 0 < length ms
@@ -270,27 +238,39 @@ taken-silo ls ms d e s lines directory taken =
       second_asks = taken-goes s.second.directory d e taken.second_asks directory;
     }
 
-goes-get : (ls ms : List LineView) (at : ℕ) (d : LineView) → at < length ls → GoOn ls ms → LineGoesOn (get_or ls at d) (get_or ms at d)
-goes-get [] ms at d less on = absurd (omega arith)
-goes-get (l ∷ ls) [] at d less on = absurd on
-goes-get (l ∷ ls) (m ∷ ms) zero d less on = on.0
-goes-get (l ∷ ls) (m ∷ ms) (suc at) d less on = goes-get ls ms at d (omega arith) on.1
-
 -- lines that go on from these, and have taken in the rest, have taken in all
 abbrev pub Takes : List LineView → List LineView → List LineView → Type 0
 Takes ls rest all = (ms : List LineView) → GoOn ls ms → AllZipFront HasTakenIn ms rest → AllZipFront HasTakenIn ms all
 
-pub takes-more : (ls ms rest all : List LineView) (at : ℕ) (l m w : LineView) → ms ≡ rest ++ m ∷ [] → at ≡ length rest → AllZipFront AreAlike ls ms → l ≡ get_or ls at l → w ≡ record l { pass = joined_pass l.pass m.pass } → Agree l.pass m.pass w.pass
-    → Takes ls ms all → Takes (set ls at w) rest all
-takes-more ls ms rest all at l m w is here alike read made agree takes later on front =
-    let last = front-last AreAlike ls rest l m (subst (λ (es : List LineView). AllZipFront AreAlike ls es) is alike) in
+-- these lines come of the old ones and of all that are joined to them but the rest
+pub record Joining (old all ls rest : List LineView) : Type 0 where
+  pub alike : AllZipFront AreAlike ls rest
+  pub on : GoOn old ls
+  pub silent : AreSilent old ls
+  pub joined : joined_lines ls rest ≡ joined_lines old all
+  pub takes : Takes ls rest all
+
+pub joining-more : (old all ls ms rest : List LineView) (at : ℕ) (l m w : LineView) → ms ≡ rest ++ m ∷ [] → at ≡ length rest → l ≡ get_or ls at l → w ≡ joined_line l m → Agree l.pass m.pass w.pass → Joining old all ls ms
+    → Joining old all (set ls at w) rest
+joining-more old all ls ms rest at l m w is here read made agree was =
+    let last = front-last AreAlike ls rest l m (subst (λ (es : List LineView). AllZipFront AreAlike ls es) is was.alike) in
     let less : at < length ls = omega (arith, last.0, here) in
-    let joined = ap (λ (v : LineView). v.pass) made in
-    let before = goes-trans ls (set ls at w) later (goes-set ls at l w less (subst (λ (v : LineView). LineGoesOn v w) read (on-joined l.pass m.pass w.pass joined agree))) on in
-    let put : LineGoesOn w (get_or later at l) = subst (λ (v : LineView). LineGoesOn v (get_or later at l)) (get_or-set_same ls at w l less) (goes-get (set ls at w) later at l (omega (arith, less, length-set ls at w)) on) in
-    let taken : HasTakenIn (get_or later (length rest) l) m =
-    subst (λ n. HasTakenIn (get_or later n l) m) here (taken-goes m.pass w.pass (get_or later at l).pass (taken-joined l.pass m.pass w.pass joined agree) put) in
-    takes later before (subst (λ (es : List LineView). AllZipFront HasTakenIn later es) (sym is) (front-push HasTakenIn later rest l m (omega (arith, last.0, goes-length ls later before)) front taken))
+    let pass = ap (λ (v : LineView). v.pass) made in
+    let this : w ≡ joined_line (get_or ls (length rest) l) m = made ∙ ap (λ (v : LineView). joined_line v m) (read ∙ ap (λ n. get_or ls n l) here) in
+    let put : GoOn ls (set ls at w) = goes-set ls at l w less (subst (λ (v : LineView). LineGoesOn v w) read (on-joined l.pass m.pass w.pass pass agree)) in
+    record {
+      alike = subst (λ n. AllZipFront AreAlike (set ls n w) rest) (sym here) (front-set AreAlike ls rest w last.2);
+      on = goes-trans old ls (set ls at w) was.on put;
+      silent = silents-set old ls at l w less read (silent-joined l.pass m.pass w.pass pass agree) was.silent;
+      joined =
+          ap (λ (es : List LineView). joined_lines es rest) (ap (λ n. set ls n w) here ∙ ap (λ (v : LineView). set ls (length rest) v) this)
+          ∙ sym (joined-last ls rest l m last.0) ∙ ap (λ (es : List LineView). joined_lines ls es) (sym is) ∙ was.joined;
+      takes = λ later on front.
+          let before : GoOn ls later = goes-trans ls (set ls at w) later put on in
+          let kept : LineGoesOn w (get_or later at l) = subst (λ (v : LineView). LineGoesOn v (get_or later at l)) (get_or-set_same ls at w l less) (AllZip-get_or LineGoesOn (set ls at w) later at l l on (omega (arith, less, length-set ls at w))) in
+          let taken : HasTakenIn (get_or later (length rest) l) m = subst (λ n. HasTakenIn (get_or later n l) m) here (taken-goes m.pass w.pass (get_or later at l).pass (taken-joined l.pass m.pass w.pass pass agree) kept) in
+          was.takes later before (subst (λ (es : List LineView). AllZipFront HasTakenIn later es) (sym is) (front-push HasTakenIn later rest l m (omega (arith, last.0, goes-length ls later before)) front taken));
+    }
 
 -- which of as many lines others are at
 pub front-whole : (ls ms : List LineView) → places ms ≡ places ls → AllZipFront HasTakenIn ls ms → AllZip HasTakenIn ls ms

@@ -11,3 +11,4 @@ pub mod Running
 pub mod Stepping
 pub mod Taking
 pub mod Working
+pub mod Prelude

@@ -1,16 +1,8 @@
 -- The due subscription that an agent was named last, over its calls and its rests.
-use Rattle.std.proofs.Common.{◌≡◌, ℕ, zero, suc, false, List, [], ◌∷◌, map, Option, Some, None, Result, Ok, Err, refl, sym, ap, subst, ◌∙◌}
-use Rattle.std.specs.List.{slice_get}
-use Rattle.std.specs.Option.{unwrap_or}
-use Rattle.std.proofs.lemmas.Option.{none-some}
-use Rattle.stream_ident.specs.declared.event.Event.{Event}
+use Rattle.silo_loops.proofs.Prelude.{after, replied, ◌≡◌, ℕ, zero, suc, false, List, [], ◌∷◌, map, Option, Some, None, Result, Ok, Err, refl, sym, ap, subst, ◌∙◌, none-some, slice_get, unwrap_or, Event, Reply, Op, Refusal}
 use Rattle.stream_ident.specs.declared.ident.SubName.{SubName}
-use Rattle.stream_model.specs.declared.op.Op.{Op}
 use Rattle.stream_model.specs.declared.op.Op.TheVariants as op
-use Rattle.stream_model.specs.Replies.{Reply}
 use Rattle.stream_model.specs.declared.reply.Reply.TheVariants as reply
-use Rattle.shared_partition.specs.Partitions.{after, replied}
-use Rattle.turnstile.specs.declared.turnstile.Refusal.{Refusal}
 use Rattle.silo_loops.specs.declared.agent_walk.AgentStep.{AgentStep}
 use Rattle.silo_loops.specs.declared.agent_walk.AgentStep.TheVariants as step
 use Rattle.silo_loops.specs.declared.agent_walk.Visit.{Visit}
@@ -28,8 +20,7 @@ use Rattle.silo_loops.proofs.Working.{get-set}
 pub may-ask : (generation : ℕ) (s : AgentStep) (last : Option SubName) (p : QueuePass) → Knows s last p → AgentMay p generation (op_of generation s last)
 may-ask generation step.Pull last p knows = (refl, refl)
 may-ask generation step.Due last p knows = knows
-may-ask generation (step.Acknowledge sub token) last p knows = refl
-may-ask generation (step.Deliver sub) last p knows = refl
+may-ask generation _ last p knows = refl
 
 pub asks-may : (generation : ℕ) (visit : Visit) (lines new : List LineView) (o : Op) (room : ℕ) (old fresh : List Event) (answer : Heard) → (h : HearsAt lines visit.at o new room old fresh answer) → o ≡ op_of generation visit.step visit.last
     → IsVisiting visit lines → AgentMay h.calls.was.pass generation o
@@ -49,16 +40,13 @@ named-then generation step.Pull last next p q (Ok r) knows calls goes names = (o
 named-then generation step.Due last next p q (Ok (reply.DueSub sub ack)) knows calls goes names =
     (op.Due last, reply.DueSub sub ack, last-of-answered replied after is_pull_or_due p (op.Due last) (reply.DueSub sub ack) q calls refl, names)
 named-then generation step.Due last next p q (Ok _) knows calls goes names = absurd names
-named-then generation (step.Acknowledge sub token) last next p q (Ok r) knows calls goes names = still-named p q (op.Ack generation sub token) r last next refl calls knows names
-named-then generation (step.Deliver sub) last next p q (Ok r) knows calls goes names = still-named p q (op.Deliver generation sub) r last next refl calls knows names
+named-then generation s last next p q (Ok r) knows calls goes names = still-named p q (op_of generation s last) r last next refl calls knows names
 
 -- what it knows where it goes on
 knows-then : (s : AgentStep) (visit w : Visit) (answer : Heard) (p q : QueuePass) → (w.at ≡ visit.at → end_in answer ≡ None → NamesThen visit.step visit.last answer w.last → IsNamedLast p w.last) → (w.at ≡ visit.at → p ≡ q) → GoesOnTo s visit answer w
     → Knows s w.last q
 knows-then step.Pull visit w answer p q named same goes = goes
-knows-then step.Due visit w answer p q named same goes = subst (λ x. IsNamedLast x w.last) (same goes.0) (named goes.0 goes.1 goes.2)
-knows-then (step.Acknowledge sub token) visit w answer p q named same goes = subst (λ x. IsNamedLast x w.last) (same goes.0) (named goes.0 goes.1 goes.2)
-knows-then (step.Deliver sub) visit w answer p q named same goes = subst (λ x. IsNamedLast x w.last) (same goes.0) (named goes.0 goes.1 goes.2)
+knows-then _ visit w answer p q named same goes = subst (λ x. IsNamedLast x w.last) (same goes.0) (named goes.0 goes.1 goes.2)
 
 -- a call leaves an agent knowing what it has to
 pub visiting-on : (generation : ℕ) (visit w : Visit) (lines new : List LineView) (o : Op) (room : ℕ) (old fresh : List Event) (answer : Heard) → HearsAt lines visit.at o new room old fresh answer → o ≡ op_of generation visit.step visit.last

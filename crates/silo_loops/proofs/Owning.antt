@@ -1,15 +1,7 @@
 -- What a pass owns after a call, a split and a join.
-use Rattle.std.proofs.Common.{◌≡◌, ℕ, ◌≤◌, Bool, true, false, List, [], ◌∷◌, ◌++◌, length, drop, Contains, Result, Ok, Err, MatchResult, refl, sym, ap, subst, ◌∙◌, append_assoc, arith, inl, inr}
-use Rattle.std.proofs.lemmas.Bool.{false≢true}
-use Rattle.std.proofs.lemmas.List.{append-nil, length-append}
-use Rattle.std.proofs.lemmas.List.Elements.{Contains-append_cases}
-use Rattle.turnstile.specs.declared.history.Entry.{Entry}
-use Rattle.turnstile.specs.declared.turnstile.Refusal.{Refusal}
-use Rattle.turnstile.specs.declared.view.Start.{Start}
-use Rattle.turnstile.specs.Calls.{Agree, Called, Found, IsSplitOff, joined_pass, numbers_of}
-use Rattle.turnstile.specs.History.{Claims, Foreign, entry}
-use Rattle.turnstile.specs.Passes.{PassView}
+use Rattle.silo_loops.proofs.Prelude.{◌≡◌, ℕ, ◌≤◌, Bool, true, false, List, [], ◌∷◌, ◌++◌, length, drop, Contains, Result, Ok, Err, refl, sym, ap, subst, ◌∙◌, append_assoc, arith, inl, inr, false≢true, append-nil, length-append, Contains-append_cases, Agree, IsSplitOff, joined_pass, numbers_of, Claims, Foreign, entry, PassView, Entry, Refusal}
 use Rattle.silo_loops.specs.Passes.{CallsBy, HasOwnPast, LastOf, LastOwn, OwnsNone}
+use Rattle.silo_loops.proofs.Taking.{called-alone}
 
 either : {A : Type 0} (xs ys : List ℕ) (k : ℕ) → (Contains xs k → A) → (Contains ys k → A) → Contains (xs ++ ys) k → A
 either {A} xs ys k f g c = elim (Contains-append_cases xs ys k c) as (λ w. A) [ inl x ↦ f x | inr y ↦ g y ]
@@ -81,39 +73,23 @@ module _ {O R S : Type 0} (test : O → Bool) where
       let here = stands-before test (numbers_of p) p.seen more h.before e h.later (0, omega arith, refl) h.picked none whole in
       record { before = h.before; op = h.op; reply = h.reply; later = here.0; whole = here.1; past = h.past; picked = h.picked }
 
-  -- past all that it has seen it owns nothing
-  pub past-none : (p : PassView O R S) → HasOwnPast test (length p.seen) p → ⊥
-  past-none p h =
-      let long = ap (λ es. length es) h.whole ∙ length-append (h.before ++ entry p.number h.op h.reply ∷ []) h.later in
-      let front = length-append h.before (entry p.number h.op h.reply ∷ []) in
-      let past = h.past in
-      omega (arith, long, front, past)
-
 module _ {S O R : Type 0} (reply : S → O → R) (after : S → O → S) where
-  owns-seen : (test : O → Bool) (x : Start S) (p : PassView O R S) (op : O) (result : Result R Refusal) (seen : List (Entry O R)) → test op ≡ false → OwnsNone test (numbers_of p) p.seen
-      → MatchResult result (λ r. Called reply after x p op r seen) (λ e. Found reply after x p e seen) → OwnsNone test (numbers_of p) seen
-  owns-seen test x p op (Ok r) seen none own called =
-      let numbers = numbers_of p in
-      subst (λ es. OwnsNone test numbers es) (sym called.1)
-      (owns-append test numbers (p.seen ++ called.0) (entry p.number op r ∷ []) (owns-append test numbers p.seen called.0 own (owns-foreign test numbers called.0 called.2)) ((λ _. none), tt))
-  owns-seen test x p op (Err e) seen none own found =
-      let numbers = numbers_of p in
-      subst (λ es. OwnsNone test numbers es) (sym found.1) (owns-append test numbers p.seen found.0 own (owns-foreign test numbers found.0 found.2))
+  -- of what a call adds the pass owns none that the test picks, where it doesn't pick the call
+  adds-none : (test : O → Bool) (p : PassView O R S) (op : O) (result : Result R Refusal) (q : PassView O R S) → test op ≡ false → CallsBy reply after p op result q
+      → (more : List (Entry O R)) × (q.seen ≡ p.seen ++ more) × OwnsNone test (numbers_of p) more
+  adds-none test p op (Ok r) q none calls =
+      let called = calls.call in
+      let own = entry p.number op r ∷ [] in
+      (called.0 ++ own, called.1 ∙ append_assoc p.seen called.0 own, owns-append test (numbers_of p) called.0 own (owns-foreign test (numbers_of p) called.0 called.2) ((λ _. none), tt))
+  adds-none test p op (Err e) q none calls = (calls.call.0, calls.call.1, owns-foreign test (numbers_of p) calls.call.0 calls.call.2)
 
   -- after a call that the test doesn't pick the pass owns no more that it picks
   pub owns-called : (test : O → Bool) (p : PassView O R S) (op : O) (result : Result R Refusal) (q : PassView O R S) → test op ≡ false → OwnsNone test (numbers_of p) p.seen
       → CallsBy reply after p op result q → OwnsNone test (numbers_of q) q.seen
   owns-called test p op result q none own calls =
-      subst (λ numbers. OwnsNone test numbers q.seen) (sym (ap numbers_of calls.only)) (owns-seen test calls.origin.start p op result q.seen none own calls.call)
-
-  more-seen : (x : Start S) (p : PassView O R S) (op : O) (result : Result R Refusal) (seen : List (Entry O R))
-      → MatchResult result (λ r. Called reply after x p op r seen) (λ e. Found reply after x p e seen) → (more : List (Entry O R)) × (seen ≡ p.seen ++ more)
-  more-seen x p op (Ok r) seen called = (called.0 ++ entry p.number op r ∷ [], called.1 ∙ append_assoc p.seen called.0 (entry p.number op r ∷ []))
-  more-seen x p op (Err e) seen found = (found.0, found.1)
-
-  -- a call sees more
-  pub calls-more : (p : PassView O R S) (op : O) (result : Result R Refusal) (q : PassView O R S) → CallsBy reply after p op result q → (more : List (Entry O R)) × (q.seen ≡ p.seen ++ more)
-  calls-more p op result q calls = more-seen calls.origin.start p op result q.seen calls.call
+      let added = adds-none test p op result q none calls in
+      subst (λ numbers. OwnsNone test numbers q.seen) (sym (ap numbers_of calls.only))
+      (subst (λ es. OwnsNone test (numbers_of p) es) (sym added.1) (owns-append test (numbers_of p) p.seen added.0 own added.2))
 
   pub calls-number : (p : PassView O R S) (op : O) (result : Result R Refusal) (q : PassView O R S) → CallsBy reply after p op result q → q.number ≡ p.number
   calls-number p op result q calls = ap (λ (w : PassView O R S). w.number) calls.only
@@ -121,16 +97,14 @@ module _ {S O R : Type 0} (reply : S → O → R) (after : S → O → S) where
   -- what it owned past the mark it owns after a call
   pub past-called : (test : O → Bool) (mark : ℕ) (p : PassView O R S) (op : O) (result : Result R Refusal) (q : PassView O R S) → CallsBy reply after p op result q → HasOwnPast test mark p → HasOwnPast test mark q
   past-called test mark p op result q calls h =
-      let more = calls-more p op result q calls in
+      let more = called-alone reply after p op result q calls in
       past-more test mark p q more.0 (calls-number p op result q calls) more.1 h
 
   -- what it owns past the mark later it owned before, unless it is the call itself
-  pub past-before-answered : (test : O → Bool) (mark : ℕ) (p : PassView O R S) (op : O) (r : R) (q : PassView O R S) → test op ≡ false → CallsBy reply after p op (Ok r) q → HasOwnPast test mark q → HasOwnPast test mark p
-  past-before-answered test mark p op r q none calls h =
-      let between = calls.call.0 in
-      let more = between ++ entry p.number op r ∷ [] in
-      past-before test mark p q more (calls-number p op (Ok r) q calls) (calls.call.1 ∙ append_assoc p.seen between (entry p.number op r ∷ []))
-      (owns-append test (numbers_of p) between (entry p.number op r ∷ []) (owns-foreign test (numbers_of p) between calls.call.2) ((λ _. none), tt)) h
+  pub past-before-called : (test : O → Bool) (mark : ℕ) (p : PassView O R S) (op : O) (result : Result R Refusal) (q : PassView O R S) → test op ≡ false → CallsBy reply after p op result q → HasOwnPast test mark q → HasOwnPast test mark p
+  past-before-called test mark p op result q none calls h =
+      let added = adds-none test p op result q none calls in
+      past-before test mark p q added.0 (calls-number p op result q calls) added.1 added.2 h
 
   pub past-before-refused : (test : O → Bool) (mark : ℕ) (p : PassView O R S) (op : O) (e : Refusal) (q : PassView O R S) → CallsBy reply after p op (Err e) q → HasOwnPast test mark q → HasOwnPast test mark p
   past-before-refused test mark p op e q calls h =
@@ -172,17 +146,15 @@ module _ {S O R : Type 0} (reply : S → O → R) (after : S → O → S) where
   -- and else the one that was
   pub last-of-called : (test : O → Bool) (p : PassView O R S) (op : O) (r : R) (q : PassView O R S) → CallsBy reply after p op (Ok r) q → test op ≡ false → (o : O) (s : R) → LastOf test p o s → LastOf test q o s
   last-of-called test p op r q calls none o s last =
-      let numbers = numbers_of p in
-      let between = calls.call.0 in
-      let own = entry p.number op r ∷ [] in
+      let added = adds-none test p op (Ok r) q none calls in
       record {
         before = last.before;
-        later = last.later ++ (between ++ own);
+        later = last.later ++ added.0;
         whole =
-            calls.call.1 ∙ append_assoc p.seen between own ∙ ap (λ es. es ++ (between ++ own)) last.whole ∙ append_assoc (last.before ++ entry p.number o s ∷ []) last.later (between ++ own)
-            ∙ ap (λ n. (last.before ++ entry n o s ∷ []) ++ (last.later ++ (between ++ own))) (sym (calls-number p op (Ok r) q calls));
+            added.1 ∙ ap (λ es. es ++ added.0) last.whole ∙ append_assoc (last.before ++ entry p.number o s ∷ []) last.later added.0
+            ∙ ap (λ n. (last.before ++ entry n o s ∷ []) ++ (last.later ++ added.0)) (sym (calls-number p op (Ok r) q calls));
         picked = last.picked;
         none =
-            subst (λ ks. OwnsNone test ks (last.later ++ (between ++ own))) (sym (ap numbers_of calls.only))
-            (owns-append test numbers last.later (between ++ own) last.none (owns-append test numbers between own (owns-foreign test numbers between calls.call.2) ((λ _. none), tt)));
+            subst (λ ks. OwnsNone test ks (last.later ++ added.0)) (sym (ap numbers_of calls.only))
+            (owns-append test (numbers_of p) last.later added.0 last.none added.2);
       }

@@ -1,5 +1,5 @@
 -- Runs of steps, put together.
-use Rattle.std.proofs.Common.{refl, ◌∙◌}
+use Rattle.silo_loops.proofs.Prelude.{refl, ◌∙◌}
 use Rattle.silo_loops.specs.declared.advance.Advance.{Advance}
 use Rattle.silo_loops.specs.declared.advance.Advance.TheVariants.{Did}
 use Rattle.silo_loops.specs.Agents.{AgentRuns, AgentView, HasSamePlaces}

@@ -1,22 +1,13 @@
 -- What the steps of a worker do.
-use Rattle.std.proofs.Common.{◌≡◌, ℕ, suc, ◌<◌, ◌≤◌, ◌+◌, ◌⊎◌, inl, inr, true, List, ◌∷◌, length, drop, get_or, Option, Some, None, Result, refl, sym, ap, subst, ◌∙◌, add-one}
-use Rattle.std.specs.List.{slice_get}
-use Rattle.std.specs.Option.{unwrap_or}
+use Rattle.silo_loops.proofs.Prelude.{DirectoryReply, ◌≡◌, ℕ, suc, ◌<◌, ◌≤◌, ◌+◌, ◌⊎◌, inl, inr, true, List, ◌∷◌, length, drop, get_or, Option, Some, None, Result, refl, sym, ap, subst, ◌∙◌, add-one, drop_all, length-set, slice_get_within, slice_get, unwrap_or, Event, Reply, Op, Refusal}
 use Rattle.std.proofs.Math.Seq.{drop-cons}
-use Rattle.std.proofs.lemmas.List.{drop_all, length-set}
-use Rattle.std.proofs.lemmas.Option.{slice_get_within}
-use Rattle.stream_ident.specs.declared.event.Event.{Event}
 use Rattle.stream_ident.specs.declared.ident.GrainId.{GrainId}
 use Rattle.stream_ident.specs.declared.ident.SubName.{SubName}
 use Rattle.stream_ident.specs.declared.token.Token.{Token}
 use Rattle.stream_ident.specs.declared.limits.TheConstants.{TURN_EVENTS}
-use Rattle.stream_model.specs.declared.op.Op.{Op}
 use Rattle.stream_model.specs.declared.op.Op.TheVariants as op
-use Rattle.stream_model.specs.Replies.{Reply}
 use Rattle.activation_directory.specs.declared.op.DirectoryOp.{DirectoryOp}
 use Rattle.activation_directory.specs.declared.op.DirectoryOp.TheVariants as asked
-use Rattle.activation_directory.specs.declared.reply.DirectoryReply.{DirectoryReply}
-use Rattle.turnstile.specs.declared.turnstile.Refusal.{Refusal}
 use Rattle.silo_loops.specs.declared.advance.Over.{Over}
 use Rattle.silo_loops.specs.declared.heard.Heard.{Heard}
 use Rattle.silo_loops.specs.declared.worker_walk.Step.{Step}

@@ -1,12 +1,5 @@
 -- Passes that were taken in, and those that took them in.
-use Rattle.std.proofs.Common.{◌≡◌, ℕ, List, [], ◌∷◌, ◌++◌, Contains, Result, Ok, Err, MatchResult, refl, sym, ap, subst, ◌∙◌, append_assoc, arith}
-use Rattle.std.proofs.lemmas.List.Elements.{Contains-append_right}
-use Rattle.turnstile.specs.declared.history.Entry.{Entry}
-use Rattle.turnstile.specs.declared.turnstile.Refusal.{Refusal}
-use Rattle.turnstile.specs.declared.view.Start.{Start}
-use Rattle.turnstile.specs.Calls.{Agree, Called, Found, joined_pass, numbers_of}
-use Rattle.turnstile.specs.History.{Foreign, entry}
-use Rattle.turnstile.specs.Passes.{PassView}
+use Rattle.silo_loops.proofs.Prelude.{◌≡◌, ℕ, List, [], ◌∷◌, ◌++◌, Contains, Result, Ok, Err, refl, sym, ap, subst, ◌∙◌, append_assoc, arith, Contains-append_right, Agree, joined_pass, numbers_of, Foreign, entry, PassView, Entry, Refusal}
 use Rattle.turnstile.proofs.Histories.{foreign-append}
 use Rattle.silo_loops.specs.Passes.{CallsAlone, CallsBy, IsOtherIn}
 
@@ -60,13 +53,10 @@ module _ {O R S : Type 0} where
       first-of p = (0, omega arith, refl)
 
 module _ {S O R : Type 0} (reply : S → O → R) (after : S → O → S) where
-  called-seen : (x : Start S) (p : PassView O R S) (op : O) (result : Result R Refusal) (seen : List (Entry O R)) → MatchResult result (λ r. Called reply after x p op r seen) (λ e. Found reply after x p e seen)
-      → (more : List (Entry O R)) × (seen ≡ p.seen ++ more) × CallsAlone p more
-  called-seen x p op (Ok r) seen called =
-      let last = entry p.number op r ∷ [] in
-      (called.0 ++ last, called.1 ∙ append_assoc p.seen called.0 last, alone-append p called.0 last (alone-foreign p called.0 called.2) ((λ here. refl), tt))
-  called-seen x p op (Err e) seen found = (found.0, found.1, alone-foreign p found.0 found.2)
-
   -- what a call adds to what a pass has seen
   pub called-alone : (p : PassView O R S) (op : O) (result : Result R Refusal) (q : PassView O R S) → CallsBy reply after p op result q → (more : List (Entry O R)) × (q.seen ≡ p.seen ++ more) × CallsAlone p more
-  called-alone p op result q calls = called-seen calls.origin.start p op result q.seen calls.call
+  called-alone p op (Ok r) q calls =
+      let called = calls.call in
+      let last = entry p.number op r ∷ [] in
+      (called.0 ++ last, called.1 ∙ append_assoc p.seen called.0 last, alone-append p called.0 last (alone-foreign p called.0 called.2) ((λ here. refl), tt))
+  called-alone p op (Err e) q calls = (calls.call.0, calls.call.1, alone-foreign p calls.call.0 calls.call.2)

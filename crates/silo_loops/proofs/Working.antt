@@ -1,21 +1,11 @@
 -- What a worker's next step is, and what its passes have done by then.
-use Rattle.std.proofs.Common.{◌≡◌, ℕ, zero, suc, ◌<◌, List, [], ◌∷◌, length, map, get_or, Some, Result, Ok, Err, refl, sym, ap, subst, ◌∙◌, arith}
-use Rattle.std.specs.List.{slice_get, slice_set}
-use Rattle.std.proofs.lemmas.List.{get_or-set_same, length-set}
-use Rattle.std.specs.Option.{option_map}
-use Rattle.std.proofs.lemmas.Option.{none-some, slice_get-get_or, slice_get_within}
-use Rattle.stream_ident.specs.declared.event.Event.{Event}
+use Rattle.silo_loops.proofs.Prelude.{DirectoryReply, after, replied, ◌≡◌, ℕ, ◌<◌, List, [], ◌∷◌, length, map, get_or, Some, Result, Ok, refl, sym, ap, subst, ◌∙◌, arith, get_or-set_same, length-set, slice_get-get_or, slice_get-map, slice_get_within, slice_get, slice_set, option_map, Event, Reply, Op, Refusal}
 use Rattle.stream_ident.specs.declared.ident.GrainId.{GrainId}
-use Rattle.stream_model.specs.declared.op.Op.{Op}
 use Rattle.stream_model.specs.declared.op.Op.TheVariants as op
-use Rattle.stream_model.specs.Replies.{Reply}
 use Rattle.stream_model.specs.declared.reply.Reply.TheVariants as reply
 use Rattle.activation_directory.specs.declared.op.DirectoryOp.TheVariants as asked
-use Rattle.activation_directory.specs.declared.reply.DirectoryReply.{DirectoryReply}
 use Rattle.activation_directory.specs.declared.reply.DirectoryReply.TheVariants as told
 use Rattle.shared_partition.specs.Directories as directory
-use Rattle.shared_partition.specs.Partitions.{after, replied}
-use Rattle.turnstile.specs.declared.turnstile.Refusal.{Refusal}
 use Rattle.silo_loops.specs.declared.worker_walk.Step.{Step}
 use Rattle.silo_loops.specs.declared.worker_walk.Step.TheVariants as step
 use Rattle.silo_loops.specs.Answers.{heard_of, end_in, end_of, events_after}
@@ -27,65 +17,48 @@ use Rattle.silo_loops.proofs.Owning.{last-answered}
 
 -- an answer ends a loop as its result does
 pub end-heard : (result : Result Reply Refusal) → end_in (heard_of result) ≡ end_of result
-end-heard (Err refused) = refl
 end-heard (Ok reply.TooMany) = refl
-end-heard (Ok reply.Spent) = refl
-end-heard (Ok _) = refl
+end-heard _ = refl
 
 pub begun-work : (at : ℕ) (grain : GrainId) (permit : ℕ) (old : List Event) (result : Result Reply Refusal) → work_in at (step_after_begin grain permit (heard_of result)) (events_after result old) ≡ turn_in at result
-begun-work at grain permit old (Err refused) = refl
 begun-work at grain permit old (Ok (reply.Turn sub activation turn events note)) = refl
-begun-work at grain permit old (Ok _) = refl
+begun-work at grain permit old _ = refl
 
 pub begun-fits : (d : DirectoryPass) (p q : QueuePass) (grain : GrainId) (permit most : ℕ) (result : Result Reply Refusal) → Keeps d grain permit
     → CallsBy replied after p (op.Begin grain most) result q → Fits (step_after_begin grain permit (heard_of result)) d q
-begun-fits d p q grain permit most (Err refused) keeps calls = keeps
 begun-fits d p q grain permit most (Ok (reply.Turn sub activation turn events note)) keeps calls =
     (keeps, (most, events, note, last-answered replied after p (op.Begin grain most) (reply.Turn sub activation turn events note) q calls))
-begun-fits d p q grain permit most (Ok _) keeps calls = keeps
+begun-fits d p q grain permit most _ keeps calls = keeps
 
 pub committed-work : (at : ℕ) (grain : GrainId) (permit : ℕ) (events : List Event) (result : Result Reply Refusal) → work_in at (step_after_commit grain permit (heard_of result)) events ≡ commit_in at result
-committed-work at grain permit events (Err refused) = refl
 committed-work at grain permit events (Ok (reply.Committed sub token)) = refl
-committed-work at grain permit events (Ok _) = refl
+committed-work at grain permit events _ = refl
 
 pub committed-fits : (d : DirectoryPass) (p q : QueuePass) (grain : GrainId) (permit : ℕ) (o : Op) (result : Result Reply Refusal) → Keeps d grain permit
     → CallsBy replied after p o result q → Fits (step_after_commit grain permit (heard_of result)) d q
-committed-fits d p q grain permit o (Err refused) keeps calls = keeps
 committed-fits d p q grain permit o (Ok (reply.Committed sub token)) keeps calls = (keeps, (o, last-answered replied after p o (reply.Committed sub token) q calls))
-committed-fits d p q grain permit o (Ok _) keeps calls = keeps
+committed-fits d p q grain permit o _ keeps calls = keeps
 
 pub entered-fits : (d e : DirectoryPass) (p : QueuePass) (grain : GrainId) (silo : ℕ) (result : Result DirectoryReply Refusal)
     → CallsBy directory.replied directory.after d (asked.Enter grain silo) result e → Fits (step_after_enter grain result) e p
-entered-fits d e p grain silo (Err refused) calls = tt
 entered-fits d e p grain silo (Ok (told.Entered permit)) calls =
     (silo, last-answered directory.replied directory.after d (asked.Enter grain silo) (told.Entered permit) e calls)
-entered-fits d e p grain silo (Ok _) calls = tt
+entered-fits d e p grain silo _ calls = tt
 
 pub entered-work : (at : ℕ) (grain : GrainId) (events : List Event) (result : Result DirectoryReply Refusal) → work_in at (step_after_enter grain result) events ≡ Nothing
-entered-work at grain events (Err refused) = refl
 entered-work at grain events (Ok (told.Entered permit)) = refl
-entered-work at grain events (Ok _) = refl
+entered-work at grain events _ = refl
 
 pub free-work : (at : ℕ) (s : Step) (events : List Event) → IsFree s → work_in at s events ≡ Nothing
-free-work at step.Rest events free = refl
-free-work at step.Look events free = refl
-free-work at (step.Enter grain) events free = refl
-free-work at (step.Begin grain permit) events free = absurd free
 free-work at (step.Handle grain permit turn) events free = absurd free
 free-work at (step.Tell grain permit sub token) events free = absurd free
-free-work at (step.Again grain permit) events free = absurd free
-free-work at (step.Leave grain permit) events free = absurd free
+free-work at _ events free = refl
 
 pub free-fits : (s : Step) (d : DirectoryPass) (p : QueuePass) → IsFree s → Fits s d p
 free-fits step.Rest d p free = tt
 free-fits step.Look d p free = tt
 free-fits (step.Enter grain) d p free = tt
-free-fits (step.Begin grain permit) d p free = absurd free
-free-fits (step.Handle grain permit turn) d p free = absurd free
-free-fits (step.Tell grain permit sub token) d p free = absurd free
-free-fits (step.Again grain permit) d p free = absurd free
-free-fits (step.Leave grain permit) d p free = absurd free
+free-fits _ d p free = absurd free
 
 -- what was set is found
 pub get-set : {A : Type 0} (xs : List A) (k : ℕ) (x y : A) → slice_get xs k ≡ Some x → slice_get (slice_set xs k y) k ≡ Some y
@@ -104,12 +77,7 @@ fresh-at [] first rests some = absurd (omega arith)
 fresh-at (l ∷ lines) {at} {s} {d} first rests some =
     record { line = l; had = ap (λ k. slice_get (l ∷ lines) k) first; fits = subst (λ t. Fits t d l.pass) (sym rests) tt }
 
-get-rested : (lines : List LineView) (k : ℕ) (l : LineView) → slice_get lines k ≡ Some l → slice_get (map rested lines) k ≡ Some (rested l)
-get-rested [] k l had = absurd (none-some l had)
-get-rested (x ∷ xs) zero l had = ap (λ o. option_map rested o) had
-get-rested (x ∷ xs) (suc k) l had = get-rested xs k l had
-
 -- lines that begin anew leave a worker where it is
 pub rested-at : {at : ℕ} {s : Step} {lines new : List LineView} {d : DirectoryPass} → new ≡ map rested lines → IsAt at s lines d → IsAt at s new d
 rested-at {at} {s} {lines} {d = d} same here =
-    subst (λ ls. IsAt at s ls d) (sym same) (record { line = rested here.line; had = get-rested lines at here.line here.had; fits = here.fits })
+    subst (λ ls. IsAt at s ls d) (sym same) (record { line = rested here.line; had = slice_get-map rested lines at ∙ ap (λ o. option_map rested o) here.had; fits = here.fits })

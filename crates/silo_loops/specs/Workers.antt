@@ -169,11 +169,6 @@ abbrev pub worker_of : WorkerState → ℕ → Option why.Over → WorkerView
 worker_of w rounds over =
     record { silo = w.silo; lines = w.lines; directory = w.directory; work = work_in w.at w.step w.events; rounds = rounds; over = over }
 
--- what a step of a worker that isn't at rest does
-abbrev pub WorkerSteps : Follows → WorkerView → WorkerView → Option why.Over → Type 0
-WorkerSteps follows v w None = WorkerCalls v w ⊎ (WorkerAsks v w ⊎ WorkerWorks follows v w)
-WorkerSteps follows v w (Some end) = WorkerCalls v w ⊎ WorkerAsks v w
-
 -- the same turnstiles
 pub record IsBeside (v w : WorkerView) : Type 0 where
   pub lines : places w.lines ≡ places v.lines

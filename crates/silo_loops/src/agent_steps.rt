@@ -8,6 +8,7 @@ ghost use Rattle.silo_loops.specs.Visiting.{IsVisiting};
 use crate::advance::{Advance, Over, told};
 use crate::agent_walk::Visit;
 use crate::assigned::Assigned;
+use crate::desk::{count_at, is_among, wait_at};
 use crate::doorbell::Doorbell;
 use crate::line::{Line, hear_at, keep_at, leave_at, rest_all};
 use shared_partition::{Gate, QueueHistory};
@@ -80,7 +81,7 @@ fn next_hinted(assigned: &Assigned, held: &mut Vec<Option<u64>>, visit: &mut Vis
     ensures visiting { (lines : List LineView) → IsVisiting visit.old lines → IsVisiting visit.new lines }
 {
     for at in visit.at..held.len() {
-        if !visit.is_for(at) {
+        if !is_among(&visit.hinted, at) {
             continue;
         }
         let generation = assigned.generation(at);
@@ -237,7 +238,7 @@ impl<G: Gate, H: QueueHistory> Agent<G, H> {
     {
         self.visit.begin();
         self.visit.hinted = None;
-        self.visit.seen = self.doorbell.agent_count(rt, self.silo);
+        self.visit.seen = count_at(rt, self.doorbell.agent(self.silo));
         next_held(&self.assigned, &mut self.held, &mut self.visit)
     }
 
@@ -347,7 +348,6 @@ impl<G: Gate, H: QueueHistory> Agent<G, H> {
 
     /// Waits at the doorbell until there may be more, or `stop` is set.
     pub(crate) fn wait<R: Wait>(&self, rt: &R, stop: &AtomicBool) {
-        self.doorbell
-            .wait_for_agent(rt, self.silo, self.visit.seen, stop);
+        wait_at(rt, self.doorbell.agent(self.silo), self.visit.seen, stop);
     }
 }

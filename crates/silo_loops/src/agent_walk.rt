@@ -192,7 +192,7 @@ impl Visit {
         ensures { GoesOnTo self.new.step self.old answer.now self.new }
     {
         match *answer {
-            Heard::Due { ref sub, ack } => self.serve(sub, ack),
+            Heard::Due(ref sub, ack) => self.serve(sub, ack),
             _ => self.leave(),
         }
     }
@@ -214,14 +214,6 @@ impl Visit {
             Some(token) => AgentStep::Acknowledge { sub: *sub, token },
             None => AgentStep::Deliver { sub: *sub },
         };
-    }
-
-    /// Whether the round is for this queue.
-    pub(crate) fn is_for(&self, queue: usize) -> bool {
-        match self.hinted {
-            Some(ref hinted) => hinted.has(queue),
-            None => true,
-        }
     }
 
     // Whether the subscription is past the last one.

@@ -39,6 +39,14 @@ impl QueueSet {
     }
 }
 
+/// Whether the queue is one of these, where there are some, or else one of all.
+pub(crate) fn is_among(queues: &Option<QueueSet>, queue: usize) -> bool {
+    match *queues {
+        Some(ref queues) => queues.has(queue),
+        None => true,
+    }
+}
+
 // The bit of a queue, where it has one.
 fn bit(queue: usize) -> Option<u64> {
     if queue < 64 { Some(1 << queue) } else { None }
@@ -222,5 +230,20 @@ impl Desk {
         if is_told {
             self.ring(rt);
         }
+    }
+}
+
+/// The count at a desk, where there is one.
+pub(crate) fn count_at<R: Wait>(rt: &R, desk: Option<&Desk>) -> u64 {
+    match desk {
+        Some(desk) => desk.now(rt),
+        None => 0,
+    }
+}
+
+/// Waits at a desk, where there is one, while its count is this one and `stop` isn't set.
+pub(crate) fn wait_at<R: Wait>(rt: &R, desk: Option<&Desk>, seen: u64, stop: &AtomicBool) {
+    if let Some(desk) = desk {
+        desk.wait_past(rt, seen, stop);
     }
 }

@@ -314,21 +314,6 @@ impl Doorbell {
         }
     }
 
-    // The count at which a silo's agent waits.
-    pub(crate) fn agent_count<R: Wait>(&self, rt: &R, silo: u8) -> u64 {
-        match self.agent(silo) {
-            Some(desk) => desk.now(rt),
-            None => 0,
-        }
-    }
-
-    // Waits while the count of a silo's agent is this one and `stop` isn't set.
-    pub(crate) fn wait_for_agent<R: Wait>(&self, rt: &R, silo: u8, seen: u64, stop: &AtomicBool) {
-        if let Some(desk) = self.agent(silo) {
-            desk.wait_past(rt, seen, stop);
-        }
-    }
-
     // The hints for a silo's agent, which are taken away. Where there are none it looks for some time.
     pub(crate) fn watch_for_agent(&self, silo: u8) -> QueueSet {
         match self.agent(silo) {
@@ -352,21 +337,6 @@ impl Doorbell {
         match self.workers(silo) {
             Some(desk) => !desk.hinted().is_empty(),
             None => false,
-        }
-    }
-
-    // The count at which a silo's workers wait.
-    pub(crate) fn worker_count<R: Wait>(&self, rt: &R, silo: u8) -> u64 {
-        match self.workers(silo) {
-            Some(desk) => desk.now(rt),
-            None => 0,
-        }
-    }
-
-    // Waits while the count of a silo's workers is this one and `stop` isn't set.
-    pub(crate) fn wait_for_work<R: Wait>(&self, rt: &R, silo: u8, seen: u64, stop: &AtomicBool) {
-        if let Some(desk) = self.workers(silo) {
-            desk.wait_past(rt, seen, stop);
         }
     }
 
@@ -409,15 +379,12 @@ impl Doorbell {
         match *answer {
             Ok(DirectoryReply::Entered { .. }) => self.entered(queue, silo),
             Ok(DirectoryReply::Elsewhere { silo: other }) => self.elsewhere(rt, queue, other),
-            Ok(DirectoryReply::Busy) => self.busy(silo, queue),
+            Ok(DirectoryReply::Busy) => {
+                if let Some(desk) = self.workers(silo) {
+                    desk.busy(queue);
+                }
+            }
             _ => {}
-        }
-    }
-
-    // A ready grain at the queue has its permit out on this silo.
-    fn busy(&self, silo: u8, queue: usize) {
-        if let Some(desk) = self.workers(silo) {
-            desk.busy(queue);
         }
     }
 

@@ -24,15 +24,9 @@ pub(crate) enum Heard {
         note: u64,
     },
     /// The turn is committed.
-    Committed {
-        sub: SubName,
-        token: Token,
-    },
-    /// A subscription is due.
-    Due {
-        sub: SubName,
-        ack: Option<Token>,
-    },
+    Committed(SubName, Token),
+    /// A subscription is due, with what it has still to acknowledge.
+    Due(SubName, Option<Token>),
     /// Another agent is the current one.
     StaleAgent,
     /// Something was pulled, delivered, acknowledged or dropped.
@@ -87,8 +81,8 @@ fn heard_in(outcome: &Outcome) -> Heard
         },
         Reply::TooMany | Reply::Spent => Heard::Ended(Over::Limit),
         Reply::Next(grain) => Heard::Next(grain),
-        Reply::Committed { sub, token } => Heard::Committed { sub, token },
-        Reply::DueSub { sub, ack } => Heard::Due { sub, ack },
+        Reply::Committed { sub, token } => Heard::Committed(sub, token),
+        Reply::DueSub { sub, ack } => Heard::Due(sub, ack),
         Reply::StaleAgent { .. } => Heard::StaleAgent,
         Reply::Pulled { .. } | Reply::Delivered { .. } | Reply::Acked | Reply::Dropped { .. } => {
             Heard::Changed

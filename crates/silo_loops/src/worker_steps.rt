@@ -1,12 +1,13 @@
 //! A worker, each of whose steps is one call or one piece of work.
 ghost use Rattle.std.specs.Prelude.{◌≡◌, ℕ, ◌<◌, ◌≤◌, true, length, map, All, None};
-ghost use Rattle.silo_loops.specs.Answers.{over_of};
+ghost use Rattle.silo_loops.specs.Answers.{advance_of, over_of};
 ghost use Rattle.silo_loops.specs.Lines.{HasLooked, rested};
 ghost use Rattle.silo_loops.specs.Walks.{IsFree};
-ghost use Rattle.silo_loops.specs.Workers.{WorkerAdvancesFrom, WorkerAsks, WorkerCalls, WorkerLooks, WorkerSteps, WorkerWorks, worker_of};
+ghost use Rattle.silo_loops.specs.Workers.{WorkerAdvancesFrom, WorkerAsks, WorkerCalls, WorkerGoesOn, WorkerLooks, WorkerWorks, worker_of};
 ghost use Rattle.silo_loops.specs.declared.worker_walk.Step.TheVariants as step;
 
 use crate::advance::{Advance, Over, told};
+use crate::desk::{count_at, wait_at};
 use crate::directory_line::DirectoryLine;
 use crate::doorbell::Doorbell;
 use crate::heard::Heard;
@@ -173,42 +174,33 @@ impl<G: Gate, H: QueueHistory, D: DirectoryHistory> Worker<G, H, D> {
         {
             self.walk.begin(queues, Some(hinted));
         } else {
-            self.walk.seen = self.doorbell.worker_count(rt, self.silo);
+            self.walk.seen = count_at(rt, self.doorbell.workers(self.silo));
             self.walk.begin(queues, None);
         }
     }
 
     // The next call of the round, or the next piece of work in hand.
     fn step<R: Wait>(&mut self, rt: &R, alloc: Global) -> Option<Over>
-        ensures { (rounds counted : ℕ) → WorkerSteps G.follows (worker_of self.old rounds None) (worker_of self.new counted result) result }
+        ensures { (rounds counted : ℕ) → WorkerGoesOn G.follows (advance_of result) (worker_of self.old rounds None) (worker_of self.new counted result) }
     {
         let step = self.walk.step;
         match &step {
             Step::Rest | Step::Look => self.look(rt, alloc),
-            Step::Enter { grain } => self.enter(rt, alloc, grain),
-            Step::Begin { grain, permit } => self.begin(rt, alloc, grain, *permit),
-            Step::Handle {
-                grain,
-                permit,
-                turn,
-            } => {
+            Step::Enter(grain) => self.enter(rt, alloc, grain),
+            Step::Begin(grain, permit) => self.begin(rt, alloc, grain, *permit),
+            Step::Handle(grain, permit, turn) => {
                 if turn.next < self.events.len() {
                     self.handle(grain, *permit, turn);
                     return None;
                 }
                 self.commit(rt, alloc, grain, *permit, turn)
             }
-            Step::Tell {
-                grain,
-                permit,
-                sub,
-                token,
-            } => {
+            Step::Tell(grain, permit, sub, token) => {
                 self.tell(grain, *permit, sub, *token);
                 None
             }
-            Step::Again { grain, permit } => self.again(rt, alloc, grain, *permit),
-            Step::Leave { grain, permit } => self.leave(rt, alloc, grain, *permit),
+            Step::Again(grain, permit) => self.again(rt, alloc, grain, *permit),
+            Step::Leave(grain, permit) => self.leave(rt, alloc, grain, *permit),
         }
     }
 
@@ -351,16 +343,12 @@ impl<G: Gate, H: QueueHistory, D: DirectoryHistory> Worker<G, H, D> {
         let note = self
             .gate
             .handle_for(grain, &turn.sub, &self.events[turn.next], turn.note);
-        let next = turn.next + 1;
-        self.walk.step = Step::Handle {
-            grain: *grain,
-            permit,
-            turn: Turn {
-                note,
-                next,
-                ..*turn
-            },
+        let after = Turn {
+            note,
+            next: turn.next + 1,
+            ..*turn
         };
+        self.walk.step = Step::Handle(*grain, permit, after);
     }
 
     // Asks which grain is ready next, with the permit of one in hand.
@@ -398,10 +386,7 @@ impl<G: Gate, H: QueueHistory, D: DirectoryHistory> Worker<G, H, D> {
         ensures { (rounds counted : ℕ) → WorkerWorks G.follows (worker_of self.old rounds None) (worker_of self.new counted None) }
     {
         self.walk.untold = Some(Commit { sub: *sub, token });
-        self.walk.step = Step::Again {
-            grain: *grain,
-            permit,
-        };
+        self.walk.step = Step::Again(*grain, permit);
     }
 
     /// Whether the next step isn't the handler's.
@@ -432,8 +417,7 @@ impl<G: Gate, H: QueueHistory, D: DirectoryHistory> Worker<G, H, D> {
 
     /// Waits at the doorbell until there may be more, or `stop` is set.
     pub(crate) fn wait<R: Wait>(&self, rt: &R, stop: &AtomicBool) {
-        self.doorbell
-            .wait_for_work(rt, self.silo, self.walk.seen, stop);
+        wait_at(rt, self.doorbell.workers(self.silo), self.walk.seen, stop);
     }
 
     /// Keeps its turn at the queue at which it is from the next call there on, and answers which that is.

@@ -5,7 +5,7 @@ ghost use Rattle.silo_loops.specs.declared.worker_walk.Step.TheVariants as step;
 ghost use Rattle.silo_loops.specs.Walks.{IsFree, step_after_begin, step_after_commit, step_after_enter};
 
 use crate::advance::{Over, end_by};
-use crate::desk::QueueSet;
+use crate::desk::{QueueSet, is_among};
 use crate::heard::Heard;
 use activation_directory::DirectoryReply;
 use stream_ident::{GrainId, SubName, Token};
@@ -32,37 +32,17 @@ pub(crate) enum Step {
     /// Asks for a ready grain.
     Look,
     /// Asks for the permit of a grain.
-    Enter {
-        grain: GrainId,
-    },
-    /// Begins a turn of it.
-    Begin {
-        grain: GrainId,
-        permit: u64,
-    },
+    Enter(GrainId),
+    /// Begins a turn of it, with its permit.
+    Begin(GrainId, u64),
     /// Handles the next event of the turn, or commits it where none is left.
-    Handle {
-        grain: GrainId,
-        permit: u64,
-        turn: Turn,
-    },
+    Handle(GrainId, u64, Turn),
     /// Tells of the commit.
-    Tell {
-        grain: GrainId,
-        permit: u64,
-        sub: SubName,
-        token: Token,
-    },
+    Tell(GrainId, u64, SubName, Token),
     /// Asks which grain is ready next, with the permit of this one.
-    Again {
-        grain: GrainId,
-        permit: u64,
-    },
+    Again(GrainId, u64),
     /// Gives the permit back.
-    Leave {
-        grain: GrainId,
-        permit: u64,
-    },
+    Leave(GrainId, u64),
 }
 
 /// A commit: whose turn it was, and the token of its last event.
@@ -118,14 +98,14 @@ impl Walk {
     // Whether the next step is the handler's, where the turn has so many events.
     pub(crate) fn handles(&self, events: usize) -> bool {
         match self.step {
-            Step::Handle { ref turn, .. } => turn.next < events,
+            Step::Handle(_, _, ref turn) => turn.next < events,
             _ => false,
         }
     }
 
     // Whether the next step gives a permit back and the one behind it asks for another.
     pub(crate) fn hands_on(&self) -> bool {
-        matches!(self.step, Step::Leave { .. }) && self.found.is_some()
+        matches!(self.step, Step::Leave(_, _)) && self.found.is_some()
     }
 
     // On to the next queue that the round is for, or where there is none, the end of the round.
@@ -152,19 +132,11 @@ impl Walk {
         ensures { IfSome result (λ next. next < queues) }
     {
         for queue in from..queues {
-            if self.is_for(queue) {
+            if is_among(&self.hinted, queue) {
                 return Some(queue);
             }
         }
         None
-    }
-
-    // Whether the round is for this queue.
-    fn is_for(&self, queue: usize) -> bool {
-        match self.hinted {
-            Some(ref hinted) => hinted.has(queue),
-            None => true,
-        }
     }
 
     /// At the first queue of a round at these queues, or at all.
@@ -199,14 +171,14 @@ impl Walk {
     /// The queue that its next step calls, where it calls one.
     pub(crate) fn queue(&self) -> Option<usize> {
         match self.step {
-            Step::Enter { .. } | Step::Leave { .. } => None,
+            Step::Enter(_) | Step::Leave(_, _) => None,
             _ => Some(self.at),
         }
     }
 
     /// Whether a ready grain was found, for which it is to ask for the permit.
     pub(crate) fn has_found(&self) -> bool {
-        matches!(self.step, Step::Enter { .. })
+        matches!(self.step, Step::Enter(_))
     }
 
     // On to a ready grain.
@@ -215,7 +187,7 @@ impl Walk {
     {
         self.last = Some(*grain);
         self.again = MOST_AGAIN;
-        self.step = Step::Enter { grain: *grain };
+        self.step = Step::Enter(*grain);
     }
 
     // Whether the grain is past the last one.
@@ -237,10 +209,7 @@ impl Walk {
         ensures over { result ≡ end_of_asking answer.now }
     {
         self.step = match *answer {
-            Ok(DirectoryReply::Entered { permit }) => Step::Begin {
-                grain: *grain,
-                permit,
-            },
+            Ok(DirectoryReply::Entered { permit }) => Step::Begin(*grain, permit),
             _ => Step::Look,
         };
         end_of_asking(answer)
@@ -266,21 +235,18 @@ impl Walk {
                 activation,
                 turn,
                 note,
-            } => Step::Handle {
-                grain: *grain,
+            } => Step::Handle(
+                *grain,
                 permit,
-                turn: Turn {
+                Turn {
                     sub,
                     activation,
                     number: turn,
                     note,
                     next: 0,
                 },
-            },
-            _ => Step::Leave {
-                grain: *grain,
-                permit,
-            },
+            ),
+            _ => Step::Leave(*grain, permit),
         };
         answer.end()
     }
@@ -297,16 +263,8 @@ impl Walk {
         ensures over { result ≡ end_in answer.now }
     {
         self.step = match *answer {
-            Heard::Committed { sub, token } => Step::Tell {
-                grain: *grain,
-                permit,
-                sub,
-                token,
-            },
-            _ => Step::Leave {
-                grain: *grain,
-                permit,
-            },
+            Heard::Committed(sub, token) => Step::Tell(*grain, permit, sub, token),
+            _ => Step::Leave(*grain, permit),
         };
         answer.end()
     }
@@ -324,14 +282,10 @@ impl Walk {
         ensures over { result ≡ end_in answer.now }
     {
         self.step = match *answer {
-            Heard::Next(ref next) if next == grain && self.again > 0 => Step::Begin {
-                grain: *grain,
-                permit,
-            },
-            _ => Step::Leave {
-                grain: *grain,
-                permit,
-            },
+            Heard::Next(ref next) if next == grain && self.again > 0 => {
+                Step::Begin(*grain, permit)
+            }
+            _ => Step::Leave(*grain, permit),
         };
         self.again = self.again.saturating_sub(1);
         self.found = match *answer {

@@ -1,8 +1,5 @@
-use Rattle.std.proofs.Common.{◌≡◌, ℕ, ◌<◌, Some}
-use Rattle.std.specs.List.{slice_get, slice_index_or}
-use Rattle.silo_loops.specs.Lines.{HasPulled, LineView}
+use Rattle.silo_loops.proofs.Holding.{ArePulled}
 use Rattle.silo_loops.proofs.agent_steps.all_pulled.Given as goal
 
 abbrev pub invariant-loop-at : goal.invariant-loop-at
-invariant-loop-at g l =
-    (k : ℕ) → k < l.at → (line : LineView) (generation : ℕ) → slice_get l.held.items k ≡ Some (Some generation) → HasPulled (slice_index_or l.lines.items k line)
+invariant-loop-at g l = ArePulled l.lines.items l.held.items l.at

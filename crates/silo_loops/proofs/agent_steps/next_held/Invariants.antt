@@ -1,4 +1,4 @@
-use Rattle.std.proofs.Common.{◌≡◌, length}
+use Rattle.silo_loops.proofs.Prelude.{◌≡◌, length}
 use Rattle.silo_loops.proofs.Holding.{HoldsNone}
 use Rattle.silo_loops.proofs.agent_steps.next_held.Given as goal
 

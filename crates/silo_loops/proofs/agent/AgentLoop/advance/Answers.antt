@@ -1,4 +1,4 @@
-use Rattle.std.proofs.Common.{None}
+use Rattle.silo_loops.proofs.Prelude.{None}
 use Rattle.silo_loops.specs.Agents.{agent_of}
 use Rattle.silo_loops.proofs.Advancing.{agent-beside}
 use Rattle.silo_loops.proofs.Causes.{agent-cause}

@@ -1,4 +1,4 @@
-use Rattle.std.proofs.Common.{ap, subst, sym, ◌∙◌}
+use Rattle.silo_loops.proofs.Prelude.{ap, subst, sym, ◌∙◌}
 use Rattle.silo_loops.specs.Agents.{AgentRuns, AgentState, AgentView, agent_of}
 use Rattle.silo_loops.specs.Chains.{Stays}
 use Rattle.silo_loops.proofs.Running.{chain-on}

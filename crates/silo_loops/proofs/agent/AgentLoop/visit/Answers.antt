@@ -1,4 +1,4 @@
-use Rattle.std.proofs.Common.{ap, subst, sym, ◌∙◌}
+use Rattle.silo_loops.proofs.Prelude.{ap, subst, sym, ◌∙◌}
 use Rattle.silo_loops.specs.Agents.{AgentAdvances, AgentState, AgentView, agent_of}
 use Rattle.silo_loops.specs.Chains.{Stays, Steps, Visits}
 use Rattle.silo_loops.proofs.Running.{agent-stays, chain-on, visited}

@@ -1,4 +1,4 @@
-use Rattle.std.proofs.Common.{rules, sym, ◌∙◌}
+use Rattle.silo_loops.proofs.Prelude.{rules, sym, ◌∙◌}
 use Rattle.silo_loops.proofs.Stepping.{agent-asked, held-within, length-called}
 use Rattle.silo_loops.proofs.Naming.{asks-may, visiting-on}
 use Rattle.silo_loops.proofs.agent_steps.Agent.ask.Goals as goal

@@ -1,4 +1,4 @@
-use Rattle.std.proofs.Common.{ap, ◌∙◌}
+use Rattle.silo_loops.proofs.Prelude.{ap, ◌∙◌}
 use Rattle.silo_loops.specs.declared.agent_walk.Visit.{Visit}
 use Rattle.silo_loops.proofs.Advancing.{none-pulled}
 use Rattle.silo_loops.proofs.agent_steps.Agent.begin_all.Goals as goal

@@ -1,4 +1,4 @@
-use Rattle.std.proofs.Common.{refl}
+use Rattle.silo_loops.proofs.Prelude.{refl}
 use Rattle.silo_loops.proofs.Advancing.{agent-rests}
 use Rattle.silo_loops.proofs.agent_steps.Agent.end_round.Goals as goal
 

@@ -1,4 +1,4 @@
-use Rattle.std.proofs.Common.{inl, refl}
+use Rattle.silo_loops.proofs.Prelude.{inl, refl}
 use Rattle.silo_loops.proofs.agent_steps.Agent.go_on.Goals as goal
 
 pub returns-in-Some : goal.returns-in-Some

@@ -1,4 +1,4 @@
-use Rattle.std.proofs.Common.{◌≡◌, List, length, replicate, Option, None, ℕ, ap, ◌∙◌, rules}
+use Rattle.silo_loops.proofs.Prelude.{◌≡◌, List, length, replicate, Option, None, ℕ, ap, ◌∙◌, rules}
 use Rattle.silo_loops.proofs.agent_steps.Agent.new.Goals as goal
 
 pub returns-clause-made : goal.returns-clause-made

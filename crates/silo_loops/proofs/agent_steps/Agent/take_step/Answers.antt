@@ -1,4 +1,4 @@
-use Rattle.std.proofs.Common.{None, subst}
+use Rattle.silo_loops.proofs.Prelude.{None, subst}
 use Rattle.silo_loops.specs.Agents.{AgentCalls, AgentState, agent_of}
 use Rattle.silo_loops.proofs.Advancing.{agent-steps}
 use Rattle.silo_loops.proofs.agent_steps.Agent.take_step.Goals as goal

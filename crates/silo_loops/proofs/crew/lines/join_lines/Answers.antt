@@ -1,4 +1,4 @@
-use Rattle.std.proofs.Common.{sym, ◌∙◌}
+use Rattle.silo_loops.proofs.Prelude.{sym, ◌∙◌}
 use Rattle.silo_loops.proofs.Going.{front-alike, front-whole, goes-places}
 use Rattle.silo_loops.proofs.crew.lines.join_lines.Goals as goal
 

@@ -1,5 +1,4 @@
-use Rattle.std.proofs.Common.{arith, refl, rules, ◌∙◌}
-use Rattle.std.proofs.lemmas.Grind.{common_steps}
+use Rattle.silo_loops.proofs.Prelude.{arith, refl, ◌∙◌, rules, common_steps}
 use Rattle.silo_loops.proofs.Going.{goes-refl, goes-same, goes-trans, refused-alike, refused-on, split-more, splits-all}
 use Rattle.silo_loops.proofs.crew.lines.split_lines.Goals as goal
 
@@ -12,18 +11,14 @@ join_front-requires-after_bounds g c κs within =
 
 pub returns-in-Err-clause-go_on : goal.returns-in-Err-clause-go_on
 returns-in-Err-clause-go_on g c =
-    let below = c.loop-at-test.true in
-    let len = c.len-at-end.ensures in
     goes-trans c.args.lines.now.items _ c.join_front.new.lines.items
-    (refused-on c.args.lines.now.items c.loop-at.lines.items _ c.loop-at.at c.index_mut-line.result.now c.split.new.self (first_of (omega (arith, below, len), search rules, grind (arith, common_steps))) c.loop-at.invariant.same
+    (refused-on c.args.lines.now.items c.loop-at.lines.items _ c.loop-at.at c.index_mut-line.result.now c.split.new.self (first_of (omega (arith, c.loop-at-test.true, c.len-at-end.ensures), search rules, grind (arith, common_steps))) c.loop-at.invariant.same
     c.index_mut-line.ensures.value c.in-Err.ensures.made.0 refl) c.join_front.ensures.go_on
 
 pub loop-at-preserved : goal.loop-at-preserved
 loop-at-preserved g c =
-    let below = c.loop-at-test.true in
-    let len = c.len-at-end.ensures in
     let more = split-more c.args.lines.now.items c.loop-at.lines.items _ c.loop-at.new.items c.push_reserved.new.self.items c.loop-at.at c.index_mut-line.result.now c.split.new.self c.in-Ok.split
-    (first_of (omega (arith, below, len), search rules, grind (arith, common_steps))) c.loop-at.invariant.same c.loop-at.invariant.made c.loop-at.invariant.off c.index_mut-line.ensures.value c.in-Ok.ensures.same refl c.in-Ok.ensures.new c.push_reserved.ensures.items in
+    (first_of (omega (arith, c.loop-at-test.true, c.len-at-end.ensures), search rules, grind (arith, common_steps))) c.loop-at.invariant.same c.loop-at.invariant.made c.loop-at.invariant.off c.index_mut-line.ensures.value c.in-Ok.ensures.same refl c.in-Ok.ensures.new c.push_reserved.ensures.items in
     record { same = more.0; made = more.1; off = more.2; room = c.push_reserved.ensures.capacity ∙ c.loop-at.invariant.room }
 
 pub returns-clause-go_on : goal.returns-clause-go_on
@@ -31,6 +26,4 @@ returns-clause-go_on g c = goes-same c.args.lines.now.items c.loop-at.lines.item
 
 pub returns-clause-new : goal.returns-clause-new
 returns-clause-new g c =
-    let past = c.loop-at-test.false in
-    let len = c.len-at-end.ensures in
-    splits-all c.args.lines.now.items c.loop-at.new.items c.loop-at.at (first_of (omega (arith, past, len), search rules, grind (arith, common_steps))) c.loop-at.invariant.made c.loop-at.invariant.off
+    splits-all c.args.lines.now.items c.loop-at.new.items c.loop-at.at (first_of (omega (arith, c.loop-at-test.false, c.len-at-end.ensures), search rules, grind (arith, common_steps))) c.loop-at.invariant.made c.loop-at.invariant.off

@@ -1,4 +1,4 @@
-use Rattle.std.proofs.Common.{◌≡◌, length, vec_capacity}
+use Rattle.silo_loops.proofs.Prelude.{◌≡◌, length, vec_capacity}
 use Rattle.silo_loops.specs.Fronts.{AllZipFront}
 use Rattle.silo_loops.specs.Silos.{IsSplitLine}
 use Rattle.silo_loops.proofs.crew.lines.split_lines.Given as goal

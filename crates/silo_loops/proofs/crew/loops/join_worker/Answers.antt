@@ -1,4 +1,4 @@
-use Rattle.std.proofs.Common.{subst}
+use Rattle.silo_loops.proofs.Prelude.{subst}
 use Rattle.silo_loops.specs.Lines.{DirectoryPass}
 use Rattle.silo_loops.specs.Passes.{IsOtherIn}
 use Rattle.silo_loops.proofs.Taking.{taken-joined}

@@ -1,5 +1,4 @@
-use Rattle.std.proofs.Common.{refl, rules, sym, subst}
-use Rattle.std.specs.List.{AllZip}
+use Rattle.silo_loops.proofs.Prelude.{refl, rules, sym, subst, AllZip}
 use Rattle.silo_loops.specs.Agents.{AgentView}
 use Rattle.silo_loops.specs.Silos.{IsAgentAt, IsFreshAgent, IsSplitLine}
 use Rattle.silo_loops.proofs.Going.{split-at, split-marked}

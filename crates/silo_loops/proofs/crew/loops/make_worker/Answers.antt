@@ -1,4 +1,4 @@
-use Rattle.std.proofs.Common.{refl, sym, subst, ap, ◌∙◌}
+use Rattle.silo_loops.proofs.Prelude.{refl, sym, subst, ap, ◌∙◌}
 use Rattle.silo_loops.specs.Workers.{WorkerView}
 use Rattle.silo_loops.specs.Silos.{IsFreshWorker, IsSplitWorker, IsWorkerAt}
 use Rattle.silo_loops.proofs.Going.{goes-refl, silent-made, silent-refl, silent-same, split-at, split-fresh, split-marked}

@@ -1,5 +1,5 @@
-use Rattle.std.proofs.Common.{◌∙◌, sym}
-use Rattle.silo_loops.proofs.Going.{goes-refl, goes-some, goes-trans, silent-refl, silent-trans, split-same, still-at}
+use Rattle.silo_loops.proofs.Prelude.{◌∙◌}
+use Rattle.silo_loops.proofs.Going.{goes-refl, goes-some, goes-trans, silent-refl, silent-trans, split-same, worker-still}
 use Rattle.silo_loops.proofs.crew.loops.make_workers.Goals as goal
 
 pub returns-in_err-first_tools-clause-go_on : goal.returns-in_err-first_tools-clause-go_on
@@ -9,31 +9,24 @@ pub returns-in_err-second_tools-clause-go_on : goal.returns-in_err-second_tools-
 returns-in_err-second_tools-clause-go_on g c = goes-refl c.args.lines.now.items
 
 pub make_worker-requires-2-clause-some : goal.make_worker-requires-2-clause-some
-make_worker-requires-2-clause-some g c κs within = goes-some c.args.lines.now.items c.make_worker.new.lines.items c.make_worker.ensures.go_on c.requires.some
+make_worker-requires-2-clause-some g c κs within = goes-some _ _ c.make_worker.ensures.go_on c.requires.some
 
 pub join_worker-requires-after_bounds : goal.join_worker-requires-after_bounds
-join_worker-requires-after_bounds g c κs within =
-    let fresh = c.in_ok-first.ensures.fresh in
-    (still-at c.in_ok-first.first.lines c.make_worker.new.lines.items c.make_worker-2.new.lines.items fresh.1.0 c.make_worker-2.ensures.go_on, fresh.1.1 ∙ sym c.make_worker-2.ensures.directory.on.turnstile)
+join_worker-requires-after_bounds g c κs within = worker-still _ _ _ _ c.in_ok-first.first c.in_ok-first.ensures.fresh.1 c.make_worker-2.ensures.go_on c.make_worker-2.ensures.directory
 
 pub returns-in-Ok-clause-go_on : goal.returns-in-Ok-clause-go_on
-returns-in-Ok-clause-go_on g c =
-    goes-trans c.args.lines.now.items c.make_worker.new.lines.items c.make_worker-2.new.lines.items c.make_worker.ensures.go_on c.make_worker-2.ensures.go_on
+returns-in-Ok-clause-go_on g c = goes-trans _ _ _ c.make_worker.ensures.go_on c.make_worker-2.ensures.go_on
 
 pub returns-in-Ok-clause-first : goal.returns-in-Ok-clause-first
 returns-in-Ok-clause-first g c =
     let fresh = c.in_ok-first.ensures.fresh in
-    (fresh.0, (still-at c.in_ok-first.first.lines c.make_worker.new.lines.items c.make_worker-2.new.lines.items fresh.1.0 c.make_worker-2.ensures.go_on, fresh.1.1 ∙ sym c.make_worker-2.ensures.directory.on.turnstile))
+    (fresh.0, worker-still _ _ _ _ c.in_ok-first.first fresh.1 c.make_worker-2.ensures.go_on c.make_worker-2.ensures.directory)
 
 pub returns-in-Err-clause-go_on : goal.returns-in-Err-clause-go_on
-returns-in-Err-clause-go_on g c =
-    goes-trans c.args.lines.now.items c.make_worker-2.new.lines.items c.join_worker.new.lines.items
-    (goes-trans c.args.lines.now.items c.make_worker.new.lines.items c.make_worker-2.new.lines.items c.make_worker.ensures.go_on c.make_worker-2.ensures.go_on) c.join_worker.ensures.go_on
+returns-in-Err-clause-go_on g c = goes-trans _ _ _ (goes-trans _ _ _ c.make_worker.ensures.go_on c.make_worker-2.ensures.go_on) c.join_worker.ensures.go_on
 
 pub returns-in-Err-clause-directory : goal.returns-in-Err-clause-directory
-returns-in-Err-clause-directory g c =
-    silent-trans c.args.directory.now c.make_worker-2.new.directory c.join_worker.new.directory
-    (silent-trans c.args.directory.now c.make_worker.new.directory c.make_worker-2.new.directory c.make_worker.ensures.directory c.make_worker-2.ensures.directory) c.join_worker.ensures.directory
+returns-in-Err-clause-directory g c = silent-trans _ _ _ (silent-trans _ _ _ c.make_worker.ensures.directory c.make_worker-2.ensures.directory) c.join_worker.ensures.directory
 
 pub returns-in_err-first_tools-clause-directory : goal.returns-in_err-first_tools-clause-directory
 returns-in_err-first_tools-clause-directory g c = silent-refl c.args.directory.now
@@ -42,7 +35,7 @@ pub returns-in_err-second_tools-clause-directory : goal.returns-in_err-second_to
 returns-in_err-second_tools-clause-directory g c = silent-refl c.args.directory.now
 
 pub returns-in-Ok-clause-directory : goal.returns-in-Ok-clause-directory
-returns-in-Ok-clause-directory g c = silent-trans c.args.directory.now c.make_worker.new.directory c.make_worker-2.new.directory c.make_worker.ensures.directory c.make_worker-2.ensures.directory
+returns-in-Ok-clause-directory g c = silent-trans _ _ _ c.make_worker.ensures.directory c.make_worker-2.ensures.directory
 
 pub returns-in-Ok-clause-same : goal.returns-in-Ok-clause-same
 returns-in-Ok-clause-same g c =
@@ -51,4 +44,4 @@ returns-in-Ok-clause-same g c =
     (second.0 ∙ first.0, second.1 ∙ first.1)
 
 pub returns-in-Ok-clause-split : goal.returns-in-Ok-clause-split
-returns-in-Ok-clause-split g c = (c.in_ok-first.ensures.split, split-same c.args.lines.now.items c.make_worker.new.lines.items c.args.directory.now c.make_worker.new.directory c.in-Ok.second c.in_ok-first.ensures.same c.in-Ok.ensures.split)
+returns-in-Ok-clause-split g c = (c.in_ok-first.ensures.split, split-same _ _ _ _ c.in-Ok.second c.in_ok-first.ensures.same c.in-Ok.ensures.split)

@@ -1,5 +1,4 @@
-use Rattle.std.proofs.Common.{subst}
-use Rattle.turnstile.specs.Calls.{Agree}
+use Rattle.silo_loops.proofs.Prelude.{subst, Agree}
 use Rattle.silo_loops.specs.Lines.{DirectoryPass}
 use Rattle.silo_loops.proofs.directory_line.DirectoryLine.join.Goals as goal
 

@@ -1,5 +1,4 @@
-use Rattle.std.proofs.Common.{subst}
-use Rattle.turnstile.specs.Calls.{Agree}
+use Rattle.silo_loops.proofs.Prelude.{subst, Agree}
 use Rattle.silo_loops.specs.Lines.{LineView}
 use Rattle.silo_loops.proofs.Kept.{kept-join}
 use Rattle.silo_loops.proofs.line.Line.join.Goals as goal

@@ -1,4 +1,4 @@
-use Rattle.std.proofs.Common.{rules}
+use Rattle.silo_loops.proofs.Prelude.{rules}
 use Rattle.stream_model.specs.Producers.{is_producer}
 use Rattle.silo_loops.proofs.Kept.{kept-split}
 use Rattle.silo_loops.proofs.Owning.{owns-split}

@@ -1,4 +1,4 @@
-use Rattle.std.proofs.Common.{Option, None, ap, subst, sym, ◌∙◌}
+use Rattle.silo_loops.proofs.Prelude.{Option, None, ap, subst, sym, ◌∙◌}
 use Rattle.silo_loops.specs.declared.advance.Over.{Over}
 use Rattle.silo_loops.specs.Workers.{WorkerAdvances, WorkerView, worker_of}
 use Rattle.silo_loops.proofs.Causes.{worker-cause}

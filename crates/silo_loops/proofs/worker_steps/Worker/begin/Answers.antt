@@ -1,4 +1,4 @@
-use Rattle.std.proofs.Common.{arith, rules}
+use Rattle.silo_loops.proofs.Prelude.{arith, rules}
 use Rattle.silo_loops.proofs.Stepping.{begun, begun-at, within}
 use Rattle.silo_loops.proofs.worker_steps.Worker.begin.Goals as goal
 
@@ -7,9 +7,7 @@ hear_at-answer-requires-clause-here g c = let h = within c.self.invariant.0 in s
 
 pub invariant_of-self : goal.invariant_of-self
 invariant_of-self g c =
-    let kept = c.hear_at-answer.ensures.room in
-    let some = c.self.invariant.1 in
-    (begun-at c.self.view_is c.after_begin.new.self.at c.after_begin.new.self.step c.requires c.self.invariant.0 c.hear_at-answer.ensures.heard c.after_begin.ensures.at c.after_begin.ensures.step, omega (arith, kept, some))
+    (begun-at c.self.view_is c.after_begin.new.self.at c.after_begin.new.self.step c.requires c.self.invariant.0 c.hear_at-answer.ensures.heard c.after_begin.ensures.at c.after_begin.ensures.step, omega (arith, c.hear_at-answer.ensures.room, c.self.invariant.1))
 
 pub returns : goal.returns
 returns g c = begun c.self.view_is c.after_begin.new.self.at c.after_begin.new.self.step c.requires c.self.invariant.0 c.self.invariant.1 c.hear_at-answer.ensures.heard c.after_begin.ensures.at c.after_begin.ensures.step c.after_begin.ensures.over

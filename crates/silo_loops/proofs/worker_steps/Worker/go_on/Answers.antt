@@ -1,4 +1,4 @@
-use Rattle.std.proofs.Common.{inl, refl}
+use Rattle.silo_loops.proofs.Prelude.{inl, refl}
 use Rattle.silo_loops.proofs.Advancing.{goes-on}
 use Rattle.silo_loops.proofs.worker_steps.Worker.go_on.Goals as goal
 

@@ -1,4 +1,4 @@
-use Rattle.std.proofs.Common.{◌<◌, length, sym, subst}
+use Rattle.silo_loops.proofs.Prelude.{◌<◌, length, sym, subst}
 use Rattle.silo_loops.specs.Walks.{WorkerState}
 use Rattle.silo_loops.proofs.Stepping.{handled, handled-at}
 use Rattle.silo_loops.proofs.worker_steps.Worker.handle.Goals as goal

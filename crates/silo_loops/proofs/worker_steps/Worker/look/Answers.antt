@@ -1,5 +1,4 @@
-use Rattle.std.proofs.Common.{◌<◌, rules, arith}
-use Rattle.std.proofs.lemmas.Grind.{common_steps}
+use Rattle.silo_loops.proofs.Prelude.{◌<◌, rules, arith, common_steps}
 use Rattle.silo_loops.proofs.Stepping.{length-called, looked, within}
 use Rattle.silo_loops.proofs.Working.{free-at}
 use Rattle.silo_loops.proofs.worker_steps.Worker.look.Goals as goal
@@ -11,16 +10,11 @@ pub after_look-over-requires : goal.after_look-over-requires
 after_look-over-requires g c =
     let below = within c.self.invariant.0 in
     let same = length-called _ _ _ _ _ _ _ _ c.hear_at-answer.ensures.heard in
-    let len = c.len.ensures in
-    let h : c.self.inside.walk.at < c.len.result = first_of (omega (arith, below, same, len), search rules, grind (arith, common_steps)) in search (rules, h)
+    let h : c.self.inside.walk.at < c.len.result = first_of (omega (arith, below, same, c.len.ensures), search rules, grind (arith, common_steps)) in search (rules, h)
 
 pub invariant_of-self : goal.invariant_of-self
 invariant_of-self g c =
-    let below = c.after_look-over.ensures.at in
-    let len = c.len.ensures in
-    let kept = c.hear_at-answer.ensures.room in
-    let some = c.self.invariant.1 in
-    (free-at c.after_look-over.new.self.at c.hear_at-answer.new.lines.items (first_of (omega (arith, below, len), search rules, grind (arith, common_steps))) c.after_look-over.ensures.free c.self.invariant.0.line, omega (arith, kept, some))
+    (free-at c.after_look-over.new.self.at c.hear_at-answer.new.lines.items (first_of (omega (arith, c.after_look-over.ensures.at, c.len.ensures), search rules, grind (arith, common_steps))) c.after_look-over.ensures.free c.self.invariant.0.line, omega (arith, c.hear_at-answer.ensures.room, c.self.invariant.1))
 
 pub returns : goal.returns
 returns g c = looked c.self.view_is c.after_look-over.new.self.at c.after_look-over.new.self.step c.requires c.hear_at-answer.ensures.heard c.after_look-over.ensures.over c.after_look-over.ensures.free

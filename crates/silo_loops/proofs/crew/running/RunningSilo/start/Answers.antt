@@ -1,4 +1,4 @@
-use Rattle.std.proofs.Common.{refl, subst}
+use Rattle.silo_loops.proofs.Prelude.{refl, subst}
 use Rattle.silo_loops.specs.Chains.{Stays}
 use Rattle.silo_loops.specs.Workers.{WorkerRuns, WorkerView}
 use Rattle.silo_loops.specs.Silos.{HasRun, SiloView}
