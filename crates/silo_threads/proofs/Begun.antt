@@ -1,40 +1,21 @@
 -- What the given passes have to do with the traces at the end.
-use Rattle.std.proofs.Common.{◌≡◌, ◌⊎◌, ℕ, zero, suc, inl, inr, Bool, false, List, [], ◌∷◌, ◌++◌, Contains, Option, Some, None, Result, Ok, Err, refl, sym, ap, subst, ◌∙◌, append_assoc, arith}
+use Rattle.silo_threads.proofs.Prelude.{after, replied, told_of, owns-append, owns-claimed, NeverProduces, QueuePass, CallsAlone, IsOtherIn, OwnsNone, ◌≡◌, ◌⊎◌, ℕ, zero, suc, inl, inr, Bool, false, List, [], ◌∷◌, ◌++◌, Contains, Option, Some, None, Result, Ok, Err, refl, sym, ap, subst, ◌∙◌, append_assoc, arith, append-nil, Contains-append_cases, AllByRecursion, AllZip, slice_get, All-push, All-weaken, Reply, Op, PlainPartition, foreign-append, legal_last, replay_snoc, HasOnlySeen, joined_pass, numbers_of, HasSome, Foreign, IsLegal, Own, entry, replay, Entry, Refusal}
 use Rattle.std.proofs.lemmas.Bool.{true≢false}
-use Rattle.std.proofs.lemmas.List.{append-nil}
-use Rattle.std.proofs.lemmas.List.Elements.{Contains-append_cases}
-use Rattle.std.specs.List.{AllByRecursion, AllZip}
-use Rattle.std.specs.Prelude.{slice_get}
 use Rattle.stream_laws.specs.Laws.{QuietIsDone}
-use Rattle.stream_model.specs.declared.op.Op.{Op}
 use Rattle.stream_model.specs.declared.op.Op.TheVariants as op
-use Rattle.stream_model.specs.declared.plain.PlainPartition.{PlainPartition}
-use Rattle.stream_model.specs.Replies.{Reply}
 use Rattle.stream_model.specs.declared.reply.Reply.TheVariants as reply
 use Rattle.stream_model.specs.Looks.{quiet}
-use Rattle.turnstile.proofs.Histories.{foreign-append, legal_last, replay_snoc}
-use Rattle.turnstile.specs.declared.history.Entry.{Entry}
-use Rattle.turnstile.specs.declared.turnstile.Refusal.{Refusal}
 use Rattle.turnstile.specs.declared.turnstile.Refusal.TheVariants.{HistoryFull}
-use Rattle.turnstile.specs.Calls.{HasOnlySeen, joined_pass, numbers_of}
-use Rattle.turnstile.specs.Closing.{HasSome}
-use Rattle.turnstile.specs.History.{Foreign, IsLegal, Own, entry, replay}
-use Rattle.shared_partition.specs.Partitions.{after, replied, told_of}
 use Rattle.stream_model.specs.Producers.{is_producer}
-use Rattle.silo_loops.specs.Lines.{NeverProduces, QueuePass}
-use Rattle.silo_loops.specs.Passes.{CallsAlone, IsOtherIn, OwnsNone}
-use Rattle.silo_loops.proofs.Owning.{owns-append, owns-claimed}
 use Rattle.silo_loops.proofs.Taking.{alone-append, alone-foreign}
 use Rattle.silo_threads.specs.Calls.{joined_passes}
 use Rattle.silo_threads.specs.declared.ending.asking.Quiet.{Quiet}
-use Rattle.silo_threads.specs.declared.ending.asking.Quiet.TheVariants.{All, NotQuiet}
-use Rattle.silo_threads.specs.Asking.{Asks, AsksUpTo, IsQuiet}
+use Rattle.silo_threads.specs.Asking.{Asks, IsQuiet}
 use Rattle.silo_threads.specs.Closing.{AreTraces, IsTraceOf}
 use Rattle.silo_threads.specs.Finishing.{CallersAloneProduce, CameTo, HasBegun, HasSeenFront, HaveBegun, IsDone}
 use Rattle.silo_threads.specs.Gathering.{Gathers, IsFirstOf, gathered}
-use Rattle.silo_threads.proofs.Looking.{look-keeps, look-replies}
-use Rattle.silo_threads.proofs.Rows.{all-at, zip-at, zip-refl, zip-trans}
-use Rattle.stream_ident.proofs.EachOf.{All-weaken}
+use Rattle.silo_threads.proofs.Looking.{look-each, look-keeps, look-replies}
+use Rattle.silo_threads.proofs.Rows.{all-at, zip-at, zip-trans}
 
 -- an entry of others, or a look for quiet by the pass itself
 abbrev IsLookOr : QueuePass → Entry Op Reply → Type 0
@@ -51,10 +32,6 @@ others-look : (p : QueuePass) (es : List (Entry Op Reply)) → Foreign (numbers_
 others-look p [] foreign = tt
 others-look p (e ∷ es) foreign = (inl foreign.0, others-look p es foreign.1)
 
-looks-push : (p : QueuePass) (es : List (Entry Op Reply)) (e : Entry Op Reply) → AllByRecursion (λ x. IsLookOr p x) es → IsLookOr p e → AllByRecursion (λ x. IsLookOr p x) (es ++ e ∷ [])
-looks-push p [] e all look = (look, tt)
-looks-push p (x ∷ es) e all look = (all.0, looks-push p es e all.1 look)
-
 asks-looks : (result : Result Reply Refusal) (p q : QueuePass) → Asks result p q → OnlyLooks p q
 asks-looks (Ok r) p q asks =
     let called = asks.calls.call in
@@ -63,7 +40,7 @@ asks-looks (Ok r) p q asks =
       only = asks.calls.only;
       more = called.0 ++ e ∷ [];
       seen = called.1 ∙ append_assoc p.seen called.0 (e ∷ []);
-      looks = looks-push p called.0 e (others-look p called.0 called.2) (inr (refl, refl));
+      looks = All-push (λ x. IsLookOr p x) called.0 e (others-look p called.0 called.2) (inr (refl, refl));
     }
 asks-looks (Err refusal) p q asks =
     let found = asks.calls.call in
@@ -72,23 +49,9 @@ asks-looks (Err refusal) p q asks =
 still-looks : (p : QueuePass) → OnlyLooks p p
 still-looks p = record { only = refl; more = []; seen = sym (append-nil p.seen); looks = tt }
 
-quiet-looks : (ps qs : List QueuePass) → AllZip IsQuiet ps qs → AllZip OnlyLooks ps qs
-quiet-looks [] [] all = tt
-quiet-looks [] (q ∷ qs) all = absurd all
-quiet-looks (p ∷ ps) [] all = absurd all
-quiet-looks (p ∷ ps) (q ∷ qs) all = (asks-looks (Ok reply.IsQuiet) p q all.0, quiet-looks ps qs all.1)
-
-up-to-looks : (queue : ℕ) (result : Result Reply Refusal) (ps qs : List QueuePass) → AsksUpTo queue result ps qs → AllZip OnlyLooks ps qs
-up-to-looks queue result [] qs asks = absurd asks
-up-to-looks queue result (p ∷ ps) [] asks = absurd asks
-up-to-looks zero result (p ∷ ps) (q ∷ qs) asks =
-    (asks-looks result p q asks.0, subst (λ (es : List QueuePass). AllZip OnlyLooks ps es) (sym asks.1) (zip-refl OnlyLooks still-looks ps))
-up-to-looks (suc queue) result (p ∷ ps) (q ∷ qs) asks = (asks-looks (Ok reply.IsQuiet) p q asks.0, up-to-looks queue result ps qs asks.1)
-
 came-looks : (asked : Option Quiet) (ps qs : List QueuePass) → CameTo asked ps qs → AllZip OnlyLooks ps qs
-came-looks None ps qs came = up-to-looks came.0 (Err HistoryFull) ps qs came.1
-came-looks (Some All) ps qs came = quiet-looks ps qs came
-came-looks (Some (NotQuiet queue why)) ps qs came = up-to-looks queue (Ok (reply.NotQuiet why)) ps qs came
+came-looks None ps qs came = look-each OnlyLooks still-looks asks-looks ps (Err HistoryFull) qs came
+came-looks (Some answer) ps qs came = look-each OnlyLooks still-looks asks-looks ps (Ok answer) qs came
 
 -- the history is what the pass has seen, and each entry has a number of the pass
 abbrev IsAllOf : QueuePass → List (Entry Op Reply) → Type 0

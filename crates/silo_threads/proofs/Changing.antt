@@ -1,35 +1,22 @@
 -- Lines whose passes make calls, one after another.
-use Rattle.std.proofs.Common.{◌≡◌, ◌≢◌, ℕ, zero, suc, ◌<◌, ◌≤◌, ◌+◌, false, inl, inr, List, [], ◌∷◌, ◌++◌, append_assoc, drop, length, get_or, set, Some, Result, Ok, Err, refl, sym, ap, subst, ◌∙◌, arith}
-use Rattle.std.proofs.lemmas.Option.{slice_get-get_or, slice_get_within}
-use Rattle.std.proofs.Math.Seq.{drop-append_seam, drop-length}
-use Rattle.std.proofs.lemmas.List.{drop-append-le}
-use Rattle.std.specs.List.{slice_get, slice_index}
+use Rattle.silo_threads.proofs.Prelude.{after, replied, first-of-all, goes-refl, goes-set, goes-trans, on-trans, calls-number, owns-append, owns-foreign, CallsOn, DirectoryPass, LineView, QueuePass, OwnsNone, AreSilent, GoOn, GoesOn, LineGoesOn, LineIsSilent, ◌≡◌, ◌≢◌, ℕ, zero, suc, ◌<◌, ◌≤◌, ◌+◌, false, inl, inr, List, [], ◌∷◌, ◌++◌, append_assoc, drop, length, get_or, set, Some, Result, Ok, Err, refl, sym, ap, subst, ◌∙◌, arith, drop-append_seam, drop-length, drop-append-le, slice_get-get_or, slice_get_within, slice_index, Reply, Op, Foreign, entry, Entry, Refusal}
+use Rattle.std.specs.List.{slice_get}
 use Rattle.stream_ident.specs.declared.ident.GrainId.{GrainId}
 use Rattle.stream_ident.specs.declared.token.Token.{Token}
-use Rattle.stream_model.specs.declared.op.Op.{Op}
 use Rattle.stream_model.specs.declared.op.Op.TheVariants as op
-use Rattle.stream_model.specs.Replies.{Reply}
 use Rattle.stream_model.specs.declared.reply.Reply.TheVariants as reply
 use Rattle.activation_directory.specs.declared.op.DirectoryOp.TheVariants as asked
 use Rattle.activation_directory.specs.declared.reply.DirectoryReply.TheVariants as directory
-use Rattle.turnstile.specs.declared.history.Entry.{Entry}
-use Rattle.turnstile.specs.declared.turnstile.Refusal.{Refusal}
-use Rattle.turnstile.specs.History.{Foreign, entry}
 use Rattle.shared_partition.specs.Directories as places
-use Rattle.shared_partition.specs.Partitions.{after, replied}
-use Rattle.silo_loops.specs.Lines.{CallsOn, DirectoryPass, LineView, QueuePass}
-use Rattle.silo_loops.specs.Passes.{OwnsNone}
 use Rattle.silo_loops.proofs.Resting.{lt-cases}
 use Rattle.silo_loops.proofs.Stepping.{one-line}
-use Rattle.silo_loops.specs.Silos.{AreSilent, GoOn, GoesOn, LineGoesOn, LineIsSilent}
-use Rattle.silo_loops.proofs.Owning.{calls-number, owns-append, owns-foreign}
-use Rattle.silo_loops.proofs.Going.{first-of-all, goes-refl, goes-set, goes-trans, on-trans}
 use Rattle.silo_threads.specs.declared.operators.halt.Halt.{Halt}
 use Rattle.silo_threads.specs.declared.operators.halt.Halt.TheVariants as halt
 use Rattle.silo_threads.specs.declared.operators.leaving.Release.{Release}
 use Rattle.silo_threads.specs.declared.operators.leaving.Release.TheVariants as release
 use Rattle.silo_threads.specs.Changes.{AreDeactivated, AtEachQueue, HasFound, HasFoundOne, HasMade, HasSince, HasMovedNowhere, HaveMovedNowhere, HaveOnlySeen, HaveStayed, HoldsGrains, IsAtSilo, IsDeactivated, IsDeactivation, IsMove, IsNoneLeft, IsRelease, IsSpentMove, IsUnmoved, LineHasOnlySeen, Releases, StaysBehind, halt_of, is_move}
 use Rattle.silo_threads.specs.Operators.{OperatorGoesOn, OperatorView}
+use Rattle.silo_threads.proofs.Rows.{zip-at}
 use Rattle.silo_threads.proofs.Making.{called-last, found-refused, goes-called, goes-longer, made-called, made-cases, made-earlier, made-later, made-none, made-refused}
 
 pub goes-at : (ls ms : List LineView) (k : ℕ) (l m : LineView) → GoOn ls ms → slice_get ls k ≡ Some l → slice_get ms k ≡ Some m → LineGoesOn l m
@@ -37,14 +24,6 @@ goes-at [] ms k l m on a b = absurd (cc)
 goes-at (x ∷ ls) [] k l m on a b = absurd on
 goes-at (x ∷ ls) (y ∷ ms) zero l m on a b = subst (λ (w : LineView). LineGoesOn w m) (one-line (x ∷ []) 0 x l refl a) (subst (λ (w : LineView). LineGoesOn x w) (one-line (y ∷ []) 0 y m refl b) on.0)
 goes-at (x ∷ ls) (y ∷ ms) (suc k) l m on a b = goes-at ls ms k l m on.1 a b
-
--- where a line stands later, one stood before
-pub goes-back : (ls ms : List LineView) (k : ℕ) (m : LineView) → GoOn ls ms → slice_get ms k ≡ Some m → (l : LineView) × (slice_get ls k ≡ Some l)
-goes-back [] [] k m on b = absurd (cc)
-goes-back [] (y ∷ ms) k m on b = absurd on
-goes-back (x ∷ ls) [] k m on b = absurd on
-goes-back (x ∷ ls) (y ∷ ms) zero m on b = (x, refl)
-goes-back (x ∷ ls) (y ∷ ms) (suc k) m on b = goes-back ls ms k m on.1 b
 
 get-here : (ls : List LineView) (at : ℕ) (l m : LineView) → slice_get (set ls at l) at ≡ Some m → m ≡ l
 get-here [] at l m a = absurd (cc)
@@ -152,8 +131,8 @@ nowhere-none ls queue was is had has = subst (λ (w : LineView). HasMovedNowhere
 
 pub nowhere-trans : (old new fresh : List LineView) → GoOn old new → GoOn new fresh → HaveMovedNowhere old new → HaveMovedNowhere new fresh → HaveMovedNowhere old fresh
 nowhere-trans old new fresh on on2 first second queue was is had has =
-    let middle = goes-back new fresh queue is on2 has in
-    nowhere-both was middle.0 is (goes-at old new queue was middle.0 on had middle.1) (goes-at new fresh queue middle.0 is on2 middle.1 has) (first queue was middle.0 had middle.1) (second queue middle.0 is middle.1 has)
+    let middle = zip-at LineGoesOn new fresh queue is on2 has in
+    nowhere-both was middle.0 is (goes-at old new queue was middle.0 on had middle.1) middle.2 (first queue was middle.0 had middle.1) (second queue middle.0 is middle.1 has)
 
 pub nowhere-silents : (old new : List LineView) → AreSilent old new → HaveMovedNowhere old new
 nowhere-silents [] new silent queue was is had has = absurd (cc (had))
@@ -165,8 +144,8 @@ nowhere-silents (x ∷ xs) (y ∷ ys) silent (suc queue) was is had has = nowher
 -- queues that stay where they are stay so, seen from before as well
 pub stayed-earlier : (old new fresh : List LineView) (before now : List ℕ) → GoOn old new → GoOn new fresh → HaveMovedNowhere old new → HaveStayed new fresh before now → HaveStayed old fresh before now
 stayed-earlier old new fresh before now on on2 nowhere stayed queue was is had has same =
-    let middle = goes-back new fresh queue is on2 has in
-    nowhere-both was middle.0 is (goes-at old new queue was middle.0 on had middle.1) (goes-at new fresh queue middle.0 is on2 middle.1 has) (nowhere queue was middle.0 had middle.1) (stayed queue middle.0 is middle.1 has same)
+    let middle = zip-at LineGoesOn new fresh queue is on2 has in
+    nowhere-both was middle.0 is (goes-at old new queue was middle.0 on had middle.1) middle.2 (nowhere queue was middle.0 had middle.1) (stayed queue middle.0 is middle.1 has same)
 
 -- a queue that has the silo that it had, where nothing was done, and one that was just moved
 pub at-same : (before now : ℕ) (l : LineView) → now ≡ before → IsAtSilo before now l l
@@ -208,15 +187,14 @@ unmoved-refused l silo e m calls = (
 pub each-later : (P : Op → Reply → Type 0) (old new fresh : List LineView) → GoOn old new → GoOn new fresh → AtEachQueue old new (λ k was is. HasSince was is P) → AtEachQueue old fresh (λ k was is. HasSince was is P)
 each-later P old new fresh on on2 each =
     λ k was is a b.
-    let middle = goes-back new fresh k is on2 b in
+    let middle = zip-at LineGoesOn new fresh k is on2 b in
     let goes = goes-at old new k was middle.0 on a middle.1 in
-    let goes2 = goes-at new fresh k middle.0 is on2 middle.1 b in
-    made-later P (length was.pass.seen) middle.0.pass is.pass goes2 (goes-longer was.pass middle.0.pass goes) (each k was middle.0 a middle.1)
+    made-later P (length was.pass.seen) middle.0.pass is.pass middle.2 (goes-longer was.pass middle.0.pass goes) (each k was middle.0 a middle.1)
 
 pub each-earlier : (P : Op → Reply → Type 0) (old new fresh : List LineView) → GoOn old new → GoOn new fresh → AtEachQueue new fresh (λ k was is. HasSince was is P) → AtEachQueue old fresh (λ k was is. HasSince was is P)
 each-earlier P old new fresh on on2 each =
     λ k was is a b.
-    let middle = goes-back new fresh k is on2 b in
+    let middle = zip-at LineGoesOn new fresh k is on2 b in
     let goes = goes-at old new k was middle.0 on a middle.1 in
     made-earlier P (length was.pass.seen) (length middle.0.pass.seen) is.pass (goes-longer was.pass middle.0.pass goes) (each k middle.0 is middle.1 b)
 

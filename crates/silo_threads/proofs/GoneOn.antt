@@ -1,23 +1,9 @@
 -- Passes that have seen more.
-use Rattle.std.proofs.Common.{inr, ℕ, List, [], ◌∷◌, ◌++◌, Result, Ok, Err, refl, sym, ap, subst, ◌∙◌, append_assoc}
-use Rattle.std.proofs.lemmas.List.{append-nil}
-use Rattle.stream_model.specs.declared.op.Op.{Op}
+use Rattle.silo_threads.proofs.Prelude.{owns-append, owns-foreign, QueuePass, OwnsNone, inr, ℕ, List, [], ◌∷◌, ◌++◌, Result, Ok, Err, refl, sym, ap, subst, ◌∙◌, append_assoc, append-nil, All-append, Reply, Op, numbers_of, Foreign, entry, Entry, Refusal}
 use Rattle.stream_model.specs.declared.op.Op.TheVariants as ops
-use Rattle.stream_model.specs.Replies.{Reply}
 use Rattle.stream_model.specs.Producers.{is_producer}
-use Rattle.turnstile.specs.declared.history.Entry.{Entry}
-use Rattle.turnstile.specs.declared.turnstile.Refusal.{Refusal}
-use Rattle.turnstile.specs.Calls.{numbers_of}
-use Rattle.turnstile.specs.History.{Foreign, entry}
-use Rattle.silo_loops.specs.Lines.{QueuePass}
-use Rattle.silo_loops.specs.Passes.{OwnsNone}
-use Rattle.silo_loops.proofs.Owning.{owns-append, owns-foreign}
 use Rattle.silo_threads.specs.Calls.{QueueCalls}
 use Rattle.silo_threads.specs.Draining.{AsksForProducers, HasGoneOn, IsForProducers, ProducesNone}
-
-asks-append : (numbers : List ℕ) (xs ys : List (Entry Op Reply)) → AsksForProducers numbers xs → AsksForProducers numbers ys → AsksForProducers numbers (xs ++ ys)
-asks-append numbers [] ys a b = b
-asks-append numbers (x ∷ xs) ys a b = (a.0, asks-append numbers xs ys a.1 b)
 
 -- calls of others
 pub asks-foreign : (numbers : List ℕ) (es : List (Entry Op Reply)) → Foreign numbers es → AsksForProducers numbers es
@@ -34,7 +20,7 @@ gone-trans p q r a b =
       more = a.more ++ b.more;
       seen = b.seen ∙ ap (λ (es : List (Entry Op Reply)). es ++ b.more) a.seen ∙ append_assoc p.seen a.more b.more;
       own =
-          asks-append (numbers_of p) a.more b.more a.own
+          All-append _ a.more b.more a.own
           (subst (λ ks. AsksForProducers ks b.more) (ap (λ (w : QueuePass). numbers_of w) a.only) b.own);
     }
 
@@ -46,7 +32,7 @@ called-on p q op (Ok r) asks calls =
       only = calls.calls.only;
       more = called.0 ++ last;
       seen = called.1 ∙ append_assoc p.seen called.0 last;
-      own = asks-append (numbers_of p) called.0 last (asks-foreign (numbers_of p) called.0 called.2) ((λ here. asks), tt);
+      own = All-append _ called.0 last (asks-foreign (numbers_of p) called.0 called.2) ((λ here. asks), tt);
     }
 called-on p q op (Err refusal) asks calls =
     let found = calls.calls.call in

@@ -14,3 +14,4 @@ pub mod Spreading
 pub mod Standing
 pub mod Taking
 pub mod Tracing
+pub mod Prelude

@@ -1,26 +1,15 @@
 -- Queues that are asked one after another whether they are quiet.
-use Rattle.std.proofs.Common.{◌≡◌, ◌⊎◌, ℕ, zero, suc, ◌+◌, ◌≤◌, inl, inr, List, [], ◌∷◌, ◌++◌, length, Option, Some, None, Result, Ok, refl, sym, ap, subst, ◌∙◌, arith, add-one}
-use Rattle.std.proofs.lemmas.List.{length-map}
-use Rattle.std.specs.List.{AllZip}
-use Rattle.std.specs.Option.{unwrap_or}
-use Rattle.std.proofs.lemmas.Option.{none-some}
-use Rattle.std.specs.Prelude.{slice_get, slice_set}
-use Rattle.stream_model.specs.declared.op.Op.{Op}
+use Rattle.silo_threads.proofs.Prelude.{after, replied, QueuePass, ◌≡◌, ◌⊎◌, ℕ, zero, suc, ◌+◌, ◌≤◌, inl, inr, List, [], ◌∷◌, ◌++◌, length, Option, Some, None, Result, Ok, Err, refl, sym, ap, subst, ◌∙◌, arith, add-one, length-map, none-some, AllZip, unwrap_or, slice_get, slice_set, Reply, Op, PlainPartition, legal_last, IsLegal, entry, replay, Entry, Refusal}
 use Rattle.stream_model.specs.declared.op.Op.TheVariants as op
-use Rattle.stream_model.specs.declared.plain.PlainPartition.{PlainPartition}
 use Rattle.stream_model.specs.declared.reply.Pending.{Pending}
-use Rattle.stream_model.specs.Replies.{Reply}
 use Rattle.stream_model.specs.declared.reply.Reply.TheVariants as reply
 use Rattle.stream_model.specs.Looks.{pending_in, quiet, quiet_reply}
 use Rattle.stream_model.specs.Step.{step}
-use Rattle.turnstile.specs.declared.history.Entry.{Entry}
-use Rattle.turnstile.specs.declared.turnstile.Refusal.{Refusal}
-use Rattle.turnstile.specs.History.{IsLegal, entry, replay}
-use Rattle.turnstile.proofs.Histories.{legal_last}
-use Rattle.shared_partition.specs.Partitions.{after, replied}
-use Rattle.silo_loops.specs.Lines.{QueuePass}
 use Rattle.silo_threads.specs.Calls.{CallerCalls, turnstiles}
-use Rattle.silo_threads.specs.Asking.{Asks, AsksUpTo, IsQuiet, pending_of}
+use Rattle.silo_threads.specs.declared.ending.asking.Quiet.{Quiet}
+use Rattle.silo_threads.specs.declared.ending.asking.Quiet.TheVariants.{All, NotQuiet}
+use Rattle.silo_threads.specs.Asking.{Asks, AsksQuiet, AsksUpTo, IsQuiet, pending_of}
+use Rattle.silo_threads.proofs.Rows.{zip-refl, zip-weaker}
 
 -- a look for quiet is answered by that, and changes nothing
 pub look-replies : (p : PlainPartition) → replied p op.Quiet ≡ quiet p
@@ -111,6 +100,19 @@ quiet-through (suc queue) (p ∷ ps) (q ∷ qs) here front = (front.0, quiet-thr
 
 pub quiet-all : (queue : ℕ) (old now : List QueuePass) → queue ≤ length old → length old ≤ queue → QuietUpTo queue old now → AllZip IsQuiet old now
 quiet-all queue old now low high front = quiet-through queue old now (omega arith) front
+
+-- what holds of a pass that was asked, and of one that wasn't, holds of each
+module _ (R : QueuePass → QueuePass → Type 0) (same : (p : QueuePass) → R p p) (asked : (result : Result Reply Refusal) (p q : QueuePass) → Asks result p q → R p q) where
+  up-to-each : (queue : ℕ) (result : Result Reply Refusal) (ps qs : List QueuePass) → AsksUpTo queue result ps qs → AllZip R ps qs
+  up-to-each queue result [] qs asks = absurd asks
+  up-to-each queue result (p ∷ ps) [] asks = absurd asks
+  up-to-each zero result (p ∷ ps) (q ∷ qs) asks = (asked result p q asks.0, subst (λ (es : List QueuePass). AllZip R ps es) (sym asks.1) (zip-refl R same ps))
+  up-to-each (suc queue) result (p ∷ ps) (q ∷ qs) asks = (asked (Ok reply.IsQuiet) p q asks.0, up-to-each queue result ps qs asks.1)
+
+  pub look-each : (old : List QueuePass) (result : Result Quiet Refusal) (new : List QueuePass) → AsksQuiet old result new → AllZip R old new
+  look-each old (Ok All) new asks = zip-weaker IsQuiet R (λ p q one. asked (Ok reply.IsQuiet) p q one) old new asks
+  look-each old (Ok (NotQuiet queue why)) new asks = up-to-each queue (Ok (reply.NotQuiet why)) old new asks
+  look-each old (Err refusal) new asks = up-to-each asks.0 (Err refusal) old new asks.1
 
 -- as many passes stand at as many turnstiles
 pub turnstiles-length : (old now : List QueuePass) → turnstiles now ≡ turnstiles old → length now ≡ length old

@@ -1,19 +1,7 @@
 -- Calls that a pass has made past a mark.
-use Rattle.std.proofs.Common.{◌≡◌, ℕ, zero, suc, ◌≤◌, Bool, ◌⊎◌, inl, inr, List, [], ◌∷◌, ◌++◌, length, drop, Contains, Result, Ok, Err, refl, sym, ap, subst, ◌∙◌, append_assoc, arith}
+use Rattle.silo_threads.proofs.Prelude.{calls-number, CallsBy, GoesOn, IsSilent, ◌≡◌, ℕ, zero, suc, ◌≤◌, Bool, ◌⊎◌, inl, inr, List, [], ◌∷◌, ◌++◌, length, drop, Contains, Result, Ok, Err, refl, sym, ap, subst, ◌∙◌, append_assoc, arith, drop-append_seam, drop-length, append-nil, drop-append-le, length-append, legal_last, numbers_of, HasSome, Foreign, IsLegal, entry, replay, PassView, Entry, Refusal}
 use Rattle.std.specs.Result.{IfErr, IsErrAnd}
-use Rattle.std.proofs.Math.Seq.{drop-append_seam, drop-length}
-use Rattle.std.proofs.lemmas.List.{append-nil, drop-append-le, length-append}
-use Rattle.turnstile.specs.declared.history.Entry.{Entry}
-use Rattle.turnstile.specs.Calls.{numbers_of}
-use Rattle.turnstile.specs.Closing.{HasSome}
-use Rattle.turnstile.specs.History.{Foreign, IsLegal, entry, replay}
-use Rattle.turnstile.specs.Passes.{PassView}
-use Rattle.turnstile.specs.declared.turnstile.Refusal.{Refusal}
-use Rattle.turnstile.proofs.Histories.{legal_last}
-use Rattle.silo_loops.specs.Passes.{CallsBy}
-use Rattle.silo_loops.proofs.Owning.{calls-number}
 use Rattle.silo_loops.proofs.Taking.{called-alone}
-use Rattle.silo_loops.specs.Silos.{GoesOn, IsSilent}
 use Rattle.silo_threads.specs.Changes.{HasFound, HasMade, HasMadeLast, halt_of}
 
 -- what holds of the error that `?` passes on
@@ -54,10 +42,6 @@ some-map P Q f [] some = absurd some
 some-map P Q f (x ∷ xs) some = elim some as (λ s. Q x ⊎ HasSome Q xs) [ inl here ↦ inl (f x here) | inr there ↦ inr (some-map P Q f xs there) ]
 
 module _ {O R : Type 0} where
-  -- the pass of this number made such a call
-  Makes : ℕ → (O → R → Type 0) → Entry O R → Type 0
-  Makes number IsSuch e = (e.number ≡ number) × IsSuch e.op e.reply
-
   -- none of these is a call of the number
   none-foreign : (number : ℕ) (joined : List ℕ) (IsSuch : O → R → Type 0) (es : List (Entry O R)) → Foreign (number ∷ joined) es → HasSome (λ (e : Entry O R). (e.number ≡ number) × IsSuch e.op e.reply) es → ⊥
   none-foreign number joined IsSuch [] foreign some = some

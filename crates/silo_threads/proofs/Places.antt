@@ -1,8 +1,5 @@
 -- A change of silos leaves the turnstiles of the queues.
-use Rattle.std.proofs.Common.{◌≡◌, ℕ, Result, Ok, Err, ap}
-use Rattle.std.specs.declared.alloc.AllocError.{AllocError}
-use Rattle.silo_loops.specs.Lines.{places}
-use Rattle.silo_loops.proofs.Going.{goes-places}
+use Rattle.silo_threads.proofs.Prelude.{goes-places, places, ◌≡◌, ℕ, Result, Ok, Err, ap, AllocError}
 use Rattle.silo_threads.specs.Operators.{OperatorGoesOn, OperatorView}
 use Rattle.silo_threads.specs.Clusters.{AnswersDown, AnswersUp, ClusterView}
 use Rattle.silo_threads.specs.declared.clusters.cluster.SiloDown.{SiloDown}

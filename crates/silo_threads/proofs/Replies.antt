@@ -1,12 +1,8 @@
 -- What a queue answers to a Move, and the directory to Down.
-use Rattle.std.proofs.Common.{◌≡◌, ◌⊎◌, ℕ, Bool, true, false, if◌then◌else◌, Option, Some, None, inl, inr, refl, ap, sym, ◌∙◌}
-use Rattle.std.specs.Option.{unwrap_or}
-use Rattle.std.proofs.lemmas.Option.{none-some}
+use Rattle.silo_threads.proofs.Prelude.{replied, ◌≡◌, ◌⊎◌, ℕ, Bool, true, false, if◌then◌else◌, Option, Some, None, inl, inr, refl, ap, sym, ◌∙◌, none-some, unwrap_or, Reply, PlainPartition}
 use Rattle.stream_ident.specs.declared.ident.GrainId.{GrainId}
 use Rattle.stream_ident.specs.declared.token.Token.{Token}
 use Rattle.stream_model.specs.declared.op.Op.TheVariants as op
-use Rattle.stream_model.specs.declared.plain.PlainPartition.{PlainPartition}
-use Rattle.stream_model.specs.Replies.{Reply}
 use Rattle.stream_model.specs.declared.reply.Reply.TheVariants as reply
 use Rattle.stream_ident.specs.Words.{least_with}
 use Rattle.stream_model.specs.Positions.{is_spent, open_resumes}
@@ -19,7 +15,6 @@ use Rattle.activation_directory.specs.Placed.{least_on}
 use Rattle.activation_directory.specs.Plain.{PlainDirectory}
 use Rattle.activation_directory.specs.Step as plain
 use Rattle.shared_partition.specs.Directories as places
-use Rattle.shared_partition.specs.Partitions.{replied}
 use Rattle.silo_threads.specs.Changes.{moved_of}
 
 abbrev pub MovesOrSpent : Reply → Type 0

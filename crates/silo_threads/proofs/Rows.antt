@@ -1,7 +1,5 @@
 -- What holds of each two at one place, and of each in a list.
-use Rattle.std.proofs.Common.{◌≡◌, ℕ, zero, suc, List, [], ◌∷◌, Some, Result, Ok, Err, IfOk, refl, subst}
-use Rattle.std.specs.List.{AllByRecursion, AllZip}
-use Rattle.std.specs.Prelude.{slice_get}
+use Rattle.silo_threads.proofs.Prelude.{◌≡◌, ℕ, zero, suc, List, [], ◌∷◌, Some, refl, subst, AllByRecursion, AllZip, slice_get}
 
 module _ {A : Type 0} (R : A → A → Type 0) where
   pub zip-refl : ((x : A) → R x x) → (xs : List A) → AllZip R xs xs
@@ -31,11 +29,6 @@ module _ {A : Type 0} (P : A → Type 0) where
   all-at [] k x all had = absurd (cc)
   all-at (z ∷ xs) zero x all had = let same : z ≡ x = cc in subst (λ (e : A). P e) same all.0
   all-at (z ∷ xs) (suc k) x all had = all-at xs k x all.1 had
-
-module _ {X E : Type 0} (P Q : X → Type 0) where
-  pub if-ok : (r : Result X E) → ((x : X) → P x → Q x) → IfOk r P → IfOk r Q
-  if-ok (Ok x) weak holds = weak x holds
-  if-ok (Err e) weak holds = tt
 
 module _ {A B : Type 0} (R T : A → B → Type 0) where
   pub zip-weaker : ((x : A) (y : B) → R x y → T x y) → (xs : List A) (ys : List B) → AllZip R xs ys → AllZip T xs ys

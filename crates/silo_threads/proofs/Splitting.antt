@@ -1,22 +1,8 @@
 -- Passes that are split off one after another, and joined again.
-use Rattle.std.proofs.Common.{◌≡◌, ℕ, ◌+◌, ◌<◌, ◌≤◌, inl, inr, true, false, if◌then◌else◌, List, [], ◌∷◌, ◌++◌, length, get_or, set, max, Result, Ok, Err, OnErr, refl, sym, ap, subst, ◌∙◌, arith}
-use Rattle.std.proofs.Math.Seq.{map-set_same}
-use Rattle.std.proofs.lemmas.List.{length_push, set-get_or}
-use Rattle.std.proofs.lemmas.Option.{get_or_from_slice_get}
-use Rattle.std.specs.List.{AllByRecursion, AllZip}
-use Rattle.std.specs.Prelude.{nat_lt}
-use Rattle.stream_model.specs.declared.op.Op.{Op}
-use Rattle.stream_model.specs.declared.plain.PlainPartition.{PlainPartition}
-use Rattle.stream_model.specs.Replies.{Reply}
-use Rattle.turnstile.specs.declared.history.Entry.{Entry}
-use Rattle.turnstile.specs.declared.turnstile.Refusal.{Refusal}
-use Rattle.turnstile.specs.Calls.{HasOnlyMade, IsSplitOff, joined_pass, numbers_of}
-use Rattle.turnstile.specs.History.{longer}
-use Rattle.turnstile.specs.Passes.{PassView}
-use Rattle.silo_loops.specs.Lines.{QueuePass}
-use Rattle.silo_loops.specs.Fronts.{AllZipFront}
+use Rattle.silo_threads.proofs.Prelude.{AllZipFront, QueuePass, ◌≡◌, ℕ, ◌+◌, ◌<◌, ◌≤◌, inl, inr, true, false, if◌then◌else◌, List, [], ◌∷◌, ◌++◌, length, get_or, set, max, Some, refl, sym, ap, subst, ◌∙◌, arith, map-set_same, length_push, set-get_or, get_or_from_slice_get, AllByRecursion, AllZip, nat_lt, slice_get, slice_set, HasOnlyMade, HasOnlySeen, IsSplitOff, joined_pass, numbers_of, longer, PassView, Entry}
 use Rattle.silo_loops.proofs.Fronts.{front-all, front-fits, front-last, front-push, front-set, front-weaker}
-use Rattle.silo_threads.specs.Calls.{AreAlike, CallerCalls, CallerLooks, HasOnlyJoined, HasTakenBack, HaveTakenBack, IsUnused, Joins, JoinsAll, SplitsOff, TakesBack, joined_passes, turnstiles}
+use Rattle.silo_threads.proofs.Rows.{zip-refl}
+use Rattle.silo_threads.specs.Calls.{AreAlike, HasOnlyJoined, HasTakenBack, HaveTakenBack, IsUnused, Joins, JoinsAll, SplitsOff, TakesBack, joined_passes, turnstiles}
 
 longer-same : {O R : Type 0} (xs : List (Entry O R)) → longer xs xs ≡ xs
 longer-same xs = elim (nat_lt (length xs) (length xs)) as (λ b. (if b then xs else xs) ≡ xs) [ true ↦ refl | false ↦ refl ]
@@ -91,16 +77,12 @@ module _ {O R S : Type 0} where
       let made : q.made ≡ max p.made r.made = ap (λ (w : PassView O R S). w.made) is in
       (only-joined p q (record p { joined = p.joined ++ numbers_of r; made = max p.made r.made }) is refl, omega arith)
 
-  all-same : (ps : List (PassView O R S)) → AllZip HasOnlyJoined ps ps
-  all-same [] = tt
-  all-same (p ∷ ps) = ((refl, omega arith), all-same ps)
-
   back-each : (ps qs : List (PassView O R S)) → HaveTakenBack ps qs → AllZip HasOnlyJoined ps qs
   back-each [] qs back = subst (λ (ks : List (PassView O R S)). AllZip HasOnlyJoined [] ks) (sym back) tt
   back-each (p ∷ ps) [] back = absurd back
   back-each (p ∷ ps) (q ∷ qs) back =
       elim back as (λ s. HasOnlyJoined p q × AllZip HasOnlyJoined ps qs) [
-        | inl made ↦ (made-joined p q made.0, subst (λ (ks : List (PassView O R S)). AllZip HasOnlyJoined ps ks) (sym made.1) (all-same ps))
+        | inl made ↦ (made-joined p q made.0, subst (λ (ks : List (PassView O R S)). AllZip HasOnlyJoined ps ks) (sym made.1) (zip-refl HasOnlyJoined (λ r. (refl, omega arith)) ps))
         | inr some ↦ (back-joined p q some.0, back-each ps qs some.1)
       ]
 
@@ -161,10 +143,6 @@ module _ {O R S : Type 0} where
       (some-back old made p q (omega arith) all
       (subst (λ (e : PassView O R S). HasOnlyMade e q) (read ∙ ap (λ (es : List (PassView O R S)). get_or es at p) same ∙ ap (λ n. get_or old n p) (sym here)) only))
 
-pub on-err : {X E : Type 0} (r : Result X E) (P : Type 0) → P → OnErr r P
-on-err (Ok x) P holds = tt
-on-err (Err e) P holds = holds
-
 pub takes-back : (old kept : List QueuePass) → HaveTakenBack old kept → TakesBack old kept
 takes-back old kept back =
     let each = back-each old kept back in
@@ -176,16 +154,9 @@ splits-off old new kept at past same long front =
     let off = front-all IsSplitOff old new (omega (arith, fits)) front in
     record { same = same; off = off; unused = all-unused old new off; beside = all-beside IsSplitOff split-alike old new off }
 
--- a call leaves each pass at its turnstile
-pub turnstiles-called : (ps : List QueuePass) (queue : ℕ) (op : Op) (result : Result Reply Refusal) (new : List QueuePass) → CallerCalls ps queue op result new → turnstiles new ≡ turnstiles ps
-turnstiles-called ps queue op result new c =
-    ap (λ (qs : List QueuePass). turnstiles qs) c.whole
-    ∙ map-set_same (λ (p : QueuePass). p.turnstile) ps queue c.is c.was
-    (ap (λ (p : QueuePass). p.turnstile) c.calls.calls.only ∙ ap (λ (p : QueuePass). p.turnstile) (sym (get_or_from_slice_get ps queue c.was c.was c.had)))
-
--- and so does a look
-pub turnstiles-looked : (ps : List QueuePass) (queue : ℕ) (Shows : PlainPartition → Type 0) (new : List QueuePass) → CallerLooks ps queue Shows new → turnstiles new ≡ turnstiles ps
-turnstiles-looked ps queue Shows new c =
-    ap (λ (qs : List QueuePass). turnstiles qs) c.whole
-    ∙ map-set_same (λ (p : QueuePass). p.turnstile) ps queue c.is c.was
-    (ap (λ (p : QueuePass). p.turnstile) c.looks.looks.only ∙ ap (λ (p : QueuePass). p.turnstile) (sym (get_or_from_slice_get ps queue c.was c.was c.had)))
+-- where one pass has only seen more, each is still at its turnstile
+pub turnstiles-set : (ps new : List QueuePass) (queue : ℕ) (was is : QueuePass) → slice_get ps queue ≡ Some was → new ≡ slice_set ps queue is → HasOnlySeen was is → turnstiles new ≡ turnstiles ps
+turnstiles-set ps new queue was is had whole only =
+    ap (λ (qs : List QueuePass). turnstiles qs) whole
+    ∙ map-set_same (λ (p : QueuePass). p.turnstile) ps queue is was
+    (ap (λ (p : QueuePass). p.turnstile) only ∙ ap (λ (p : QueuePass). p.turnstile) (sym (get_or_from_slice_get ps queue was was had)))

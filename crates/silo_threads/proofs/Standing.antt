@@ -1,47 +1,32 @@
 -- What a change of silos leaves.
-use Rattle.std.proofs.Common.{◌≡◌, ◌⊎◌, inl, inr, ℕ, zero, suc, ◌<◌, ◌≤◌, ◌+◌, Bool, true, false, List, [], ◌∷◌, ◌++◌, length, drop, get_or, map, remove, Contains, Some, Result, Ok, Err, refl, sym, ap, subst, ◌∙◌, arith}
-use Rattle.std.proofs.lemmas.List.{get_or-map, length-append, length-map, map-append}
-use Rattle.std.proofs.lemmas.Option.{slice_get-get_or, slice_get_within}
+use Rattle.silo_threads.proofs.Prelude.{IsBalanced, goes-length, goes-places, goes-refl, goes-trans, on-refl, split-places, still-at, taken-silo, DirectoryPass, LineView, QueuePass, places, IsOtherIn, OwnsNone, AreSilent, AreTakenIn, GoOn, GoesOn, HasRun, IsFresh, IsSilent, IsSiloAt, IsSplitLine, LineGoesOn, SiloView, ◌≡◌, ◌⊎◌, inl, inr, ℕ, zero, suc, ◌<◌, ◌≤◌, ◌+◌, Bool, true, false, List, [], ◌∷◌, ◌++◌, length, drop, get_or, map, remove, Contains, Some, Result, Ok, Err, refl, sym, ap, subst, ◌∙◌, arith, get_or-map, length-append, length-map, length_push, map-append, slice_get-get_or, slice_get_within, AllByRecursion, AllZip, range_with_len, slice_index, unwrap_or, replicate, ◌||◌, AllocError, All-push, Reply, Op, Entry}
 use Rattle.std.proofs.lemmas.List.Edits.{length-remove}
 use Rattle.std.proofs.lemmas.List.FromFn.{get_or-range_with_len, length-range_with_len}
-use Rattle.std.specs.List.{AllByRecursion, AllZip, range_with_len, slice_get, slice_index}
-use Rattle.std.specs.Option.{unwrap_or}
-use Rattle.std.specs.Prelude.{replicate, IfOk, OnOk, ◌||◌}
-use Rattle.std.specs.declared.alloc.AllocError.{AllocError}
+use Rattle.std.specs.List.{slice_get}
+use Rattle.std.specs.Prelude.{IfOk, OnOk}
 use Rattle.activation_directory.specs.declared.op.DirectoryOp.{DirectoryOp}
 use Rattle.activation_directory.specs.declared.reply.DirectoryReply.{DirectoryReply}
-use Rattle.turnstile.specs.Calls.{IsSplitOff}
-use Rattle.turnstile.specs.History.{Foreign}
 use Rattle.silo_threads.specs.Calls.{IsUnused, turnstiles}
-use Rattle.queue_balancer.specs.Balance.{IsBalanced}
 use Rattle.silo_threads.specs.declared.ending.ends.LoopEnds.{LoopEnds}
 use Rattle.silo_threads.specs.declared.ending.finishing.Finished.{Finished}
 use Rattle.silo_threads.specs.Finishing.{CallersAloneProduce, HaveBegun, IsFinished, OnHistories}
 use Rattle.silo_threads.specs.Gathering.{AreAt, gathered, passes_of}
-use Rattle.stream_ident.proofs.EachOf.{All-push}
 use Rattle.stream_ident.proofs.WordLemmas.{All-at}
-use Rattle.stream_model.specs.declared.op.Op.{Op}
-use Rattle.stream_model.specs.Replies.{Reply}
-use Rattle.turnstile.specs.declared.history.Entry.{Entry}
-use Rattle.silo_loops.specs.Lines.{DirectoryPass, LineView, QueuePass, places}
-use Rattle.silo_loops.specs.Passes.{IsOtherIn, OwnsNone}
 use Rattle.silo_loops.proofs.Running.{agent-stays, worker-stays}
-use Rattle.silo_loops.specs.Silos.{AreSilent, AreSplitOff, AreTakenIn, GoOn, GoesOn, HasRun, IsFresh, IsSilent, IsSiloAt, IsSplitLine, SiloView}
-use Rattle.silo_loops.proofs.Going.{goes-length, goes-places, goes-refl, goes-trans, on-refl, still-at, taken-silo}
 use Rattle.silo_threads.specs.declared.operators.halt.Halt.{Halt}
 use Rattle.silo_threads.specs.declared.operators.halt.Halt.TheVariants as halt
-use Rattle.silo_threads.specs.Changes.{AreDeactivated, HasFound, HasMade, HasSince, HaveMoved, HaveMovedNowhere, HaveOnlySeen, HaveStayed, HoldsGrains, IsDeactivation, IsMove, IsNoneLeft, IsRelease, IsSpentMove, StaysBehind, is_move}
+use Rattle.silo_threads.specs.Changes.{AreDeactivated, HasFound, HasMade, HasSince, HaveMoved, HaveMovedNowhere, HaveStayed, HoldsGrains, IsDeactivation, IsMove, IsNoneLeft, IsRelease, IsSpentMove, StaysBehind, is_move}
 use Rattle.silo_threads.specs.Operators.{HasOnlyGoneOn, HasSpread, IsUnspread, OperatorGoesOn, OperatorView}
-use Rattle.silo_threads.proofs.Changing.{each-earlier, each-later, goes-at, goes-back, nowhere-silents, nowhere-trans, op-trans, stayed-earlier}
-use Rattle.silo_threads.proofs.Rows.{all-at}
+use Rattle.silo_threads.proofs.Changing.{each-earlier, each-later, goes-at, nowhere-silents, nowhere-trans, op-trans, stayed-earlier}
+use Rattle.silo_threads.proofs.Rows.{all-at, zip-at}
+use Rattle.silo_threads.proofs.Splitting.{split-unused}
+use Rattle.silo_threads.proofs.Spreading.{only-refl}
 use Rattle.silo_threads.proofs.Making.{goes-longer, last-earlier, made-earlier, made-since-silent}
-use Rattle.silo_threads.specs.Clusters.{AnswersDown, AnswersRetire, AnswersUp, AreAtQueues, AreFresh, AreNoted, AreStarted, ClusterView, HasAtMostCome, HasEnded, HasHalted, HasLeft, HasMetLimit, HasNoted, HaveComeBack, HaveEnded, HaveSeenNone, IsAtDirectory, IsBrokenOff, IsCluster, IsDownBy, IsEmptied, IsLimitedAt, IsOpened, IsRetired, IsRetiredBy, IsUpBy, MayGo, RunsOn, WereLeft, WereMoved, all_noted, is_fixed, none_ended, noted}
+use Rattle.silo_threads.specs.Clusters.{AnswersDown, AnswersRetire, AnswersUp, AreAtQueues, AreFresh, AreStarted, ClusterView, HasAtMostCome, HasEnded, HasHalted, HasLeft, HasMetLimit, HasNoted, HaveComeBack, HaveEnded, HaveSeenNone, IsAtDirectory, IsBrokenOff, IsCluster, IsDownBy, IsEmptied, IsLimitedAt, IsOpened, IsRetiredBy, IsUpBy, MayGo, RunsOn, WereLeft, WereMoved, all_noted, is_fixed, none_ended, noted}
 use Rattle.silo_threads.specs.declared.clusters.config.Config.{Config}
 use Rattle.silo_threads.specs.declared.clusters.cluster.Retired.{Retired}
 use Rattle.silo_threads.specs.declared.clusters.cluster.SiloDown.{SiloDown}
-use Rattle.silo_threads.specs.declared.clusters.cluster.SiloDown.TheVariants as down
 use Rattle.silo_threads.specs.declared.clusters.cluster.SiloUp.{SiloUp}
-use Rattle.silo_threads.specs.declared.clusters.cluster.SiloUp.TheVariants as up
 
 pub on_ok_both : {A E P Q R : Type 0} → (r : Result A E) → (P → Q → R) → OnOk r P → OnOk r Q → OnOk r R
 on_ok_both (Ok x) f p q = f p q
@@ -95,7 +80,7 @@ same-at lines d s t at ran =
 moved-earlier : (old new fresh : List LineView) (before now : List ℕ) → GoOn old new → GoOn new fresh → HaveMoved new fresh before now → HaveMoved old fresh before now
 moved-earlier old new fresh before now on on2 moved =
     λ k was is a b differs.
-    let middle = goes-back new fresh k is on2 b in
+    let middle = zip-at LineGoesOn new fresh k is on2 b in
     let goes = goes-at old new k was middle.0 on a middle.1 in
     last-earlier is_move (IsMove (slice_index now k)) (length was.pass.seen) (length middle.0.pass.seen) is.pass (goes-longer was.pass middle.0.pass goes) (moved k middle.0 is middle.1 b differs)
 
@@ -109,8 +94,7 @@ spread-from u v w on on2 same spread =
 -- a limit that was met since is met since what was before
 limited-earlier : (u v w : OperatorView) (queue : ℕ) → OperatorGoesOn u v → IsLimitedAt v w queue → IsLimitedAt u w queue
 limited-earlier u v w queue on limited =
-    let first = goes-back u.lines v.lines queue limited.was on.lines limited.had in
-    let goes = goes-at u.lines v.lines queue first.0 limited.was on.lines first.1 limited.had in
+    let first = zip-at LineGoesOn u.lines v.lines queue limited.was on.lines limited.had in
     record {
       was = first.0;
       is = limited.is;
@@ -119,7 +103,7 @@ limited-earlier u v w queue on limited =
       cause =
           elim limited.cause as (λ s. HasFound halt.Limit limited.is.pass ⊎ ((silo : ℕ) × HasSince first.0 limited.is (IsSpentMove silo))) [
             | inl found ↦ inl found
-            | inr spent ↦ inr (spent.0, made-earlier (IsSpentMove spent.0) (length first.0.pass.seen) (length limited.was.pass.seen) limited.is.pass (goes-longer first.0.pass limited.was.pass goes) spent.1)
+            | inr spent ↦ inr (spent.0, made-earlier (IsSpentMove spent.0) (length first.0.pass.seen) (length limited.was.pass.seen) limited.is.pass (goes-longer first.0.pass limited.was.pass first.2) spent.1)
           ];
     }
 
@@ -157,7 +141,7 @@ evict-met u w silo d on why is holds =
     elim (subst (λ (h : Halt). HoldsGrains h silo d w.directory w.lines) is holds).1 as (λ s. HasMetLimit u w) [
       | inl found ↦ inl found
       | inr at ↦
-          let first = goes-back u.lines w.lines at.0 at.1 on.lines at.2 in
+          let first = zip-at LineGoesOn u.lines w.lines at.0 at.1 on.lines at.2 in
           inr (at.0, record { was = first.0; is = at.1; had = first.1; has = at.2; cause = inl at.3 })
     ]
 
@@ -248,13 +232,13 @@ first-silo (suc n) (suc queue) = first-silo n queue
 -- the queues were spread from the first silo
 moved-first : (ls ms : List LineView) (n : ℕ) (assignment : List ℕ) → GoOn ls ms → HaveMoved ls ms (replicate n 0) assignment → WereMoved ms assignment
 moved-first ls ms n assignment on moved queue l had other =
-    let was = goes-back ls ms queue l on had in
+    let was = zip-at LineGoesOn ls ms queue l on had in
     last-earlier is_move (IsMove (slice_index assignment queue)) 0 (length was.0.pass.seen) l.pass (omega arith) (moved queue was.0 l was.1 had (λ same. other (same ∙ first-silo n queue)))
 
 -- those that stay there were moved nowhere, where the passes had seen nothing before
 left-first : (ls ms : List LineView) (n : ℕ) (assignment : List ℕ) → GoOn ls ms → HaveSeenNone ls → HaveStayed ls ms (replicate n 0) assignment → WereLeft ms assignment
 left-first ls ms n assignment on unseen stayed queue l had here =
-    let was = goes-back ls ms queue l on had in
+    let was = zip-at LineGoesOn ls ms queue l on had in
     let none = all-at (λ (line : LineView). line.pass.seen ≡ []) ls queue was.0 unseen was.1 in
     subst (λ (es : List (Entry Op Reply)). OwnsNone is_move (l.pass.number ∷ []) (drop (length es) l.pass.seen)) none (stayed queue was.0 l was.1 had (here ∙ sym (first-silo n queue)))
 
@@ -276,16 +260,7 @@ range-absent n (at, within, here) =
     let value = get_or-range_with_len 0 n at n less in
     absurd (omega (arith, less, value, here))
 
--- a pass that was split off has made no call
-split-unused : (p q : QueuePass) → IsSplitOff p q → IsUnused q
-split-unused p q split =
-    record {
-      alone = ap (λ (w : QueuePass). w.joined) split.0;
-      silent = subst (λ (ns : List ℕ). Foreign ns q.seen) (sym (ap (λ (w : QueuePass). w.number ∷ w.joined) split.0))
-          (subst (λ es. Foreign (q.number ∷ []) es) (sym (ap (λ (w : QueuePass). w.seen) split.0)) split.2);
-    }
-
-pub all-unused : (ls ms : List LineView) → AllZip IsSplitLine ls ms → AllByRecursion IsUnused (map (λ (l : LineView). l.pass) ms)
+all-unused : (ls ms : List LineView) → AllZip IsSplitLine ls ms → AllByRecursion IsUnused (map (λ (l : LineView). l.pass) ms)
 all-unused [] [] all = tt
 all-unused [] (m ∷ ms) all = absurd all
 all-unused (l ∷ ls) [] all = absurd all
@@ -294,14 +269,6 @@ all-unused (l ∷ ls) (m ∷ ms) all = (split-unused l.pass m.pass all.0.0, all-
 pub line-turnstiles : (ls : List LineView) → turnstiles (map (λ (l : LineView). l.pass) ls) ≡ places ls
 line-turnstiles [] = refl
 line-turnstiles (l ∷ ls) = ap (λ ts. l.pass.turnstile ∷ ts) (line-turnstiles ls)
-
--- a silo more that was started
-pub started-more : (v w : OperatorView) (ss : List SiloView) (s : SiloView) (n : ℕ) → HasOnlyGoneOn v w → AreStarted n ss → RunsOn v ss → s.silo ≡ n → IsSiloAt w.lines w.directory s
-    → AreStarted (n + 1) (ss ++ s ∷ []) × RunsOn w (ss ++ s ∷ [])
-started-more v w ss s n only started runs silo at = (
-  map-append (λ (x : SiloView). x.silo) ss (s ∷ []) ∙ ap (λ (xs : List ℕ). xs ++ s.silo ∷ []) started ∙ ap (λ k. range_with_len 0 n ++ k ∷ []) silo ∙ range-next n,
-  All-push (IsSiloAt w.lines w.directory) ss s (sits-on v w ss only.on runs) at,
-)
 
 -- the loops of the silo at a place come back where they were
 pub back-at : (v : OperatorView) (ss : List SiloView) (place : ℕ) (s t : SiloView) → place < length ss → s ≡ get_or ss place s → RunsOn v ss → HasRun s t → IsSiloAt v.lines v.directory t
@@ -324,24 +291,14 @@ map-remove (s ∷ ss) (suc place) = ap (λ (xs : List ℕ). s.silo ∷ xs) (map-
 pub not-fixed : (v : ClusterView) → v.is_parked ≡ false → v.is_halted ≡ false → is_fixed v ≡ false
 not-fixed v parked halted = ap (λ b. b || v.is_halted) parked ∙ halted
 
--- a cluster whose silos don't change any more
-pub cluster-halted : (v : ClusterView) (ends : LoopEnds) (o : OperatorView) (ss : List SiloView) → v.is_parked ≡ false → RunsOn o ss → AreFresh v.rounds ss → IsCluster (record { operator = o; silos = ss; ends = ends; is_parked = v.is_parked; is_halted = true; rounds = v.rounds; looks = v.looks })
-cluster-halted v ends o ss free runs fresh =
-    record {
-      at = runs;
-      fresh = fresh;
-      loops = λ goes. let differ : true ≡ false = sym (ap (λ b. b || true) free) ∙ goes in absurd (cc (differ));
-      parked = λ parked. let differ : true ≡ false = sym parked ∙ free in absurd (cc (differ));
-    }
-
--- a cluster of which a silo went
-pub cluster-gone : (v : ClusterView) (ends : LoopEnds) (o : OperatorView) (ss : List SiloView) (place : ℕ) → v.is_parked ≡ false → v.is_halted ≡ false → IsCluster v → ss ≡ remove v.silos place → OperatorGoesOn v.operator o → o.live ≡ remove v.operator.live place
-    → IsCluster (record { operator = o; silos = ss; ends = ends; is_parked = v.is_parked; is_halted = v.is_halted; rounds = v.rounds; looks = v.looks })
-cluster-gone v ends o ss place free goes kept left on live =
+-- a cluster of which a silo went, or was to go
+pub cluster-gone : (v : ClusterView) (ends : LoopEnds) (o : OperatorView) (ss : List SiloView) (place : ℕ) (halted : Bool) → v.is_parked ≡ false → v.is_halted ≡ false → IsCluster v → ss ≡ remove v.silos place → OperatorGoesOn v.operator o → (halted ≡ false → o.live ≡ remove v.operator.live place)
+    → IsCluster (record { operator = o; silos = ss; ends = ends; is_parked = v.is_parked; is_halted = halted; rounds = v.rounds; looks = v.looks })
+cluster-gone v ends o ss place halted free goes kept left on live =
     record {
       at = subst (λ (xs : List SiloView). RunsOn o xs) (sym left) (sits-on v.operator o (remove v.silos place) on (all-remove (IsSiloAt v.operator.lines v.operator.directory) v.silos place kept.at));
       fresh = subst (λ (xs : List SiloView). AreFresh v.rounds xs) (sym left) (all-remove (λ s. IsFresh v.rounds s.silo s) v.silos place kept.fresh);
-      loops = λ fixed. ap (λ (xs : List SiloView). map (λ (x : SiloView). x.silo) xs) left ∙ map-remove v.silos place ∙ ap (λ (xs : List ℕ). remove xs place) (kept.loops (not-fixed v free goes)) ∙ sym live;
+      loops = λ fixed. ap (λ (xs : List SiloView). map (λ (x : SiloView). x.silo) xs) left ∙ map-remove v.silos place ∙ ap (λ (xs : List ℕ). remove xs place) (kept.loops (not-fixed v free goes)) ∙ sym (live (sym (ap (λ b. b || halted) free) ∙ fixed));
       parked = λ parked. let differ : true ≡ false = sym parked ∙ free in absurd (cc (differ));
     }
 
@@ -370,9 +327,10 @@ pub one-name : (live : List ℕ) (place one other : ℕ) → slice_get live plac
 one-name live place one other a b = ap (λ o. unwrap_or o one) (sym a ∙ b)
 
 -- what a new operator comes to, once its first silos live and the queues are spread over them
-pub opened-whole : (config : Config) (first lines : List LineView) (d : DirectoryPass) (v e w : OperatorView) (caller : List QueuePass) → lines ≡ first → length first ≡ config.queues → AreAtQueues config first → HaveSeenNone first → turnstiles caller ≡ places first → AllByRecursion IsUnused caller → IsAtDirectory config d
+pub opened-whole : (config : Config) (first lines own : List LineView) (d : DirectoryPass) (v e w : OperatorView) (caller : List QueuePass) → lines ≡ first → length first ≡ config.queues → AreAtQueues config first → HaveSeenNone first → AllZip IsSplitLine first own → caller ≡ passes_of own → IsAtDirectory config d
     → v ≡ record { lines = lines; directory = d; live = []; assignment = replicate (length lines) 0 } → e ≡ record v { live = range_with_len 0 config.silos } → OperatorGoesOn e w → w.live ≡ e.live → HasSpread e w → HaveStayed e.lines w.lines e.assignment w.assignment → IsOpened config w caller
-opened-whole config first lines d v e w caller same many at unseen beside unused placed made enlisted on live spread stayed =
+opened-whole config first lines own d v e w caller same many at unseen new passes placed made enlisted on live spread stayed =
+    let beside : turnstiles caller ≡ places first = ap (λ (ps : List QueuePass). turnstiles ps) passes ∙ line-turnstiles own ∙ split-places first own new in
     let kept : e.lines ≡ first = ap (λ (o : OperatorView). o.lines) enlisted ∙ ap (λ (o : OperatorView). o.lines) made ∙ same in
     let all : e.assignment ≡ replicate config.queues 0 =
     ap (λ (o : OperatorView). o.assignment) enlisted ∙ ap (λ (o : OperatorView). o.assignment) made ∙ ap (λ n. replicate n 0) (ap (λ (ls : List LineView). length ls) same ∙ many) in
@@ -389,7 +347,7 @@ opened-whole config first lines d v e w caller same many at unseen beside unused
           (subst (λ (xs : List ℕ). HaveStayed e.lines w.lines xs w.assignment) all stayed);
       beside = beside ∙ ap (λ (ls : List LineView). places ls) (sym kept) ∙ sym (goes-places e.lines w.lines on.lines);
       each = as-many caller first beside ∙ many;
-      unused = unused;
+      unused = subst (λ (ps : List QueuePass). AllByRecursion IsUnused ps) (sym passes) (all-unused first own new);
     }
 
 -- where the silos that run are those that live, one that lives at a place runs there
@@ -400,22 +358,15 @@ place-within ss live place silo loops stood =
     let same = ap (λ (xs : List ℕ). length xs) loops in
     omega (arith, within, long, same)
 
-pub down-done : (v w : ClusterView) (place silo gone : ℕ) → is_fixed v ≡ false → MayGo v silo → slice_get v.operator.live place ≡ Some silo → gone ≡ silo → OperatorGoesOn v.operator w.operator → HasLeft gone place v.operator w.operator → (w.is_parked ≡ v.is_parked) × (w.rounds ≡ v.rounds) × (w.looks ≡ v.looks) → w.is_halted ≡ false → (noted : HasNoted v silo w) → IsEmptied w.operator.directory noted.back
-    → AnswersDown v silo (Ok down.Down) w
-down-done v w place silo gone fixed may stood named on left same goes noted emptied =
-    (fixed, may, record { on = on; place = place; stood = stood; left = subst (λ k. HasLeft k place v.operator w.operator) named left; same = same; goes_on = goes }, noted, emptied)
-
-pub up-done : (v w : ClusterView) (silo : ℕ) (s : SiloView) → is_fixed v ≡ false → (Contains v.operator.live silo → ⊥) → OperatorGoesOn v.operator w.operator → HaveOnlySeen v.operator.lines w.operator.lines → w.operator.directory ≡ v.operator.directory → w.operator.live ≡ v.operator.live ++ silo ∷ [] → w.silos ≡ v.silos ++ s ∷ [] → IsFresh v.rounds silo s
-    → AreSplitOff v.operator.lines v.operator.directory s → HasSpread v.operator w.operator → HaveStayed v.operator.lines w.operator.lines v.operator.assignment w.operator.assignment → w.ends ≡ v.ends → (w.is_parked ≡ v.is_parked) × (w.rounds ≡ v.rounds) × (w.looks ≡ v.looks) → w.is_halted ≡ false
-    → AnswersUp v silo (Ok up.Up) w
-up-done v w silo s fixed absent on seen directory live more fresh split spread stayed ends same goes =
-    (fixed, absent, record { on = on; seen = seen; directory = directory; live = live; started = (s, more, fresh, split); spread = spread; stayed = stayed; ends = ends; same = same; goes_on = goes })
-
 -- a silo that ran came back, and how its loops have ended was noted
-pub has-noted : (v w : ClusterView) (place silo : ℕ) (s back : SiloView) → AreFresh v.rounds v.silos → place < length v.silos → s ≡ get_or v.silos place s → w.silos ≡ remove v.silos place → back.silo ≡ silo → HasRun s back → HaveComeBack w.operator.lines w.operator.directory back → w.ends ≡ noted v.ends back → (noted : HasNoted v silo w) × (noted.back ≡ back)
-has-noted v w place silo s back fresh within read others named ran came ends =
+pub has-noted : (v w : ClusterView) (place silo : ℕ) (s back : SiloView) → is_fixed v ≡ false → IsCluster v → slice_get v.operator.live place ≡ Some silo → s ≡ get_or v.silos place s → w.silos ≡ remove v.silos place → HasRun s back → HaveComeBack w.operator.lines w.operator.directory back → w.ends ≡ noted v.ends back
+    → (back.silo ≡ silo) × ((noted : HasNoted v silo w) × (noted.back ≡ back))
+has-noted v w place silo s back fixed kept stood read others ran came ends =
+    let within = place-within v.silos v.operator.live place silo (kept.loops fixed) stood in
+    let lives = silo-place v.silos v.operator.live place s (kept.loops fixed) within read ∙ ap (λ (k : ℕ). Some k) (sym ran.silo) in
+    let named = one-name v.operator.live place back.silo silo lives stood in
     let IsNew : SiloView → Type 0 = λ s. IsFresh v.rounds s.silo s in
-    let new : IsFresh v.rounds s.silo s = subst IsNew (sym read) (All-at IsNew v.silos place s fresh within) in
+    let new : IsFresh v.rounds s.silo s = subst IsNew (sym read) (All-at IsNew v.silos place s kept.fresh within) in
     let found : HasNoted v silo w =
     record {
       place = place;
@@ -428,7 +379,7 @@ has-noted v w place silo s back fresh within read others named ran came ends =
       come = came;
       ends = ends;
     } in
-    (found, refl)
+    (named, (found, refl))
 
 -- what came back stays so
 pub taken-op : (v w : OperatorView) (s : SiloView) → OperatorGoesOn v w → AreTakenIn v.lines v.directory s → AreTakenIn w.lines w.directory s
@@ -455,12 +406,31 @@ finished-whole entries c Ended callers lines d ends (Err e) on asks ended finish
 pub fresh-push : (rounds silo : ℕ) (ss : List SiloView) (s : SiloView) → AreFresh rounds ss → IsFresh rounds silo s → AreFresh rounds (ss ++ s ∷ [])
 fresh-push rounds silo ss s fresh new = All-push (λ (x : SiloView). IsFresh rounds x.silo x) ss s fresh (subst (λ k. IsFresh rounds k s) (sym new.0) new)
 
--- one silo more whose loops were made, and have done nothing
-pub made-more : (rounds : ℕ) (v w : OperatorView) (ss : List SiloView) (s : SiloView) (n : ℕ) → HasOnlyGoneOn v w → AreStarted n ss → AreFresh rounds ss → RunsOn v ss → IsFresh rounds n s → IsSiloAt w.lines w.directory s
-    → AreStarted (n + 1) (ss ++ s ∷ []) × AreFresh rounds (ss ++ s ∷ []) × RunsOn w (ss ++ s ∷ [])
-made-more rounds v w ss s n only started fresh runs new at =
-    let more = started-more v w ss s n only started runs new.0 at in
-    (more.0, fresh-push rounds n ss s fresh new, more.1)
+-- the loops of so many silos, numbered from 0 on, were made and have done nothing; the operator is as before
+pub record AreMade (rounds n : ℕ) (old now : OperatorView) (made : List SiloView) : Type 0 where
+  pub same : now ≡ old
+  pub only : HasOnlyGoneOn old now
+  pub many : length made ≡ n
+  pub started : AreStarted n made
+  pub fresh : AreFresh rounds made
+  pub runs : RunsOn now made
+
+pub made-none : (rounds : ℕ) (v : OperatorView) (ss : List SiloView) → ss ≡ [] → AreMade rounds 0 v v ss
+made-none rounds v ss none =
+    subst (λ (xs : List SiloView). AreMade rounds 0 v v xs) (sym none) (record { same = refl; only = only-refl v; many = refl; started = refl; fresh = tt; runs = tt })
+
+pub made-more : (rounds n : ℕ) (u v w : OperatorView) (ss more : List SiloView) (s : SiloView) → AreMade rounds n u v ss → w ≡ v → HasOnlyGoneOn v w → IsFresh rounds n s → IsSiloAt w.lines w.directory s → more ≡ ss ++ s ∷ [] → AreMade rounds (n + 1) u w more
+made-more rounds n u v w ss more s made same only new at put =
+    subst (λ (xs : List SiloView). AreMade rounds (n + 1) u w xs) (sym put)
+    (record {
+      same = same ∙ made.same;
+      only = only-trans u v w made.only only;
+      many = length_push ss s ∙ ap (λ k. k + 1) made.many;
+      started =
+          map-append (λ (x : SiloView). x.silo) ss (s ∷ []) ∙ ap (λ (xs : List ℕ). xs ++ s.silo ∷ []) made.started ∙ ap (λ k. range_with_len 0 n ++ k ∷ []) new.0 ∙ range-next n;
+      fresh = fresh-push rounds n ss s made.fresh new;
+      runs = All-push (IsSiloAt w.lines w.directory) ss s (sits-on v w ss only.on made.runs) at;
+    })
 
 -- one silo more of which it was noted how its loops have ended
 pub noted-push : (ends : LoopEnds) (ss : List SiloView) (s : SiloView) → all_noted ends (ss ++ s ∷ []) ≡ noted (all_noted ends ss) s
@@ -493,17 +463,6 @@ only-one (x ∷ y ∷ ys) silo lives one = absurd (omega (arith, one))
 -- what `retire` answers where the silo is the last
 pub last-stays : (v : ClusterView) (loops : SiloView) (many : ℕ) → v.is_halted ≡ false → (v.is_halted ≡ false → Contains v.operator.live loops.silo) → many ≡ length v.operator.live → many ≡ 1 → v.operator.live ≡ loops.silo ∷ []
 last-stays v loops many free lives count one = only-one v.operator.live loops.silo (lives free) (sym count ∙ one)
-
-pub retire-done : (v w : ClusterView) (loops : SiloView) (place silo gone : ℕ) → v.is_halted ≡ false → (length v.operator.live ≡ 1 → ⊥) → slice_get v.operator.live place ≡ Some silo → silo ≡ loops.silo → gone ≡ loops.silo → OperatorGoesOn v.operator w.operator
-    → HasLeft gone place v.operator w.operator → (w.is_parked ≡ v.is_parked) × (w.rounds ≡ v.rounds) × (w.looks ≡ v.looks) → w.is_halted ≡ false → AreNoted v loops w → IsEmptied w.operator.directory loops → IsRetired v loops w
-retire-done v w loops place silo gone free other stood silo_is named on left same goes ends emptied =
-    let here = subst (λ k. slice_get v.operator.live place ≡ Some k) silo_is stood in (
-      free,
-      may-go v place loops.silo here other,
-      record { on = on; place = place; stood = here; left = subst (λ k. HasLeft k place v.operator w.operator) named left; same = same; goes_on = goes },
-      ends,
-      emptied,
-    )
 
 pub halted-retire : {G H D : Type 0} (v w : ClusterView) (loops : SiloView) (h : Halt) (r : Result (Retired G H D) AllocError) → IsRetiredBy h r → IsBrokenOff v loops w → (h ≡ halt.Limit → HasMetLimit v.operator w.operator) → AnswersRetire v loops r w
 halted-retire {G = G} {H = H} {D = D} v w loops halt.Limit r is broken met = subst (λ (x : Result (Retired G H D) AllocError). AnswersRetire v loops x w) (sym is) (broken, met refl)

@@ -1,24 +1,11 @@
 -- Passes that take in others, one after another.
-use Rattle.std.proofs.Common.{◌≡◌, ℕ, ◌<◌, List, [], ◌∷◌, ◌++◌, length, get_or, Contains, refl, sym, ap, subst, ◌∙◌, append_assoc, arith}
-use Rattle.std.proofs.lemmas.List.{append-nil, map-append}
-use Rattle.std.proofs.lemmas.List.Elements.{Contains-append_left, Contains-append_right}
-use Rattle.std.specs.List.{AllByRecursion, AllZip}
-use Rattle.stream_model.specs.declared.op.Op.{Op}
-use Rattle.stream_model.specs.Replies.{Reply}
-use Rattle.turnstile.proofs.Histories.{foreign-append}
-use Rattle.turnstile.specs.declared.history.Entry.{Entry}
-use Rattle.turnstile.specs.Calls.{joined_pass, numbers_of}
-use Rattle.turnstile.specs.History.{Foreign}
-use Rattle.silo_loops.specs.Lines.{LineView, NeverProduces, QueuePass, places}
-use Rattle.silo_loops.specs.Passes.{IsOtherIn, IsPartOf}
-use Rattle.silo_loops.specs.Fronts.{AllZipFront}
-use Rattle.silo_threads.specs.Calls.{AreAlike, Joins, JoinsAll, turnstiles}
-use Rattle.silo_threads.proofs.Splitting.{all-whole, front-alike, turnstiles-joined}
+use Rattle.silo_threads.proofs.Prelude.{LineView, NeverProduces, QueuePass, places, IsOtherIn, IsPartOf, ◌≡◌, ℕ, List, [], ◌∷◌, ◌++◌, length, Contains, refl, sym, ap, subst, ◌∙◌, append_assoc, arith, append-nil, Contains-append_left, Contains-append_right, AllByRecursion, AllZip, Reply, Op, foreign-append, joined_pass, numbers_of, Foreign, Entry}
+use Rattle.silo_threads.specs.Calls.{Joins, JoinsAll, turnstiles}
+use Rattle.silo_threads.proofs.Splitting.{all-whole, turnstiles-joined}
 use Rattle.silo_threads.specs.Gathering.{AreAt, Gathers, IsFirstOf, JoinsEach, gathered, passes_of}
 use Rattle.silo_threads.proofs.Looking.{turnstiles-length}
 use Rattle.silo_threads.proofs.Rows.{zip-refl, zip-trans}
-use Rattle.stream_ident.proofs.EachOf.{All-push}
-use Rattle.stream_ident.proofs.WordLemmas.{All-at}
+use Rattle.silo_threads.proofs.Standing.{line-turnstiles}
 
 -- who has none of more numbers has none of fewer
 pub foreign-within : (fewer numbers : List ℕ) (es : List (Entry Op Reply)) → ((k : ℕ) → Contains fewer k → Contains numbers k) → Foreign numbers es → Foreign fewer es
@@ -109,42 +96,13 @@ each-taken ps (c ∷ cs) rs at j =
       (zip-trans IsOtherIn IsFirstOf IsOtherIn other-trans c j.0 rs (all-others ps c j.0 (turnstiles-length ps c at.0) j.1) later.0, later.1),
     )
 
-gathers : (ps : List QueuePass) (cs : List (List QueuePass)) (rs : List QueuePass) → AllByRecursion (AreAt (turnstiles ps)) cs → AllByRecursion NeverProduces ps → JoinsEach ps cs rs → Gathers ps cs rs
-gathers ps cs rs at never j =
-    let taken = each-taken ps cs rs at j in
-    record { whole = each-whole ps cs rs j; first = taken.0; others = taken.1; never = never }
-
 -- one more caller is taken in
 pub each-more : (ps : List QueuePass) (cs : List (List QueuePass)) (c now new : List QueuePass) → JoinsEach ps cs now → JoinsAll now c new → JoinsEach ps (cs ++ c ∷ []) new
 each-more ps [] c now new same j = (new, subst (λ (es : List QueuePass). JoinsAll es c new) same j, refl)
 each-more ps (y ∷ ys) c now new e j = (e.0, e.1, each-more e.0 ys c now new e.2 j)
 
--- the next caller is at the turnstiles of the passes
-pub next-alike : (old now : List QueuePass) (cs : List (List QueuePass)) (k : ℕ) (c : List QueuePass) → AllByRecursion (AreAt (turnstiles old)) cs → turnstiles now ≡ turnstiles old → k < length cs → c ≡ get_or cs k c → AllZipFront AreAlike now c
-next-alike old now cs k c at stays less is =
-    let there : turnstiles c ≡ turnstiles old = subst (λ (es : List QueuePass). AreAt (turnstiles old) es) (sym is) (All-at (AreAt (turnstiles old)) cs k c at less) in
-    front-alike now c (there ∙ sym stays)
-
--- the pass of one more line
-pub line-more : (ls : List LineView) (l : LineView) (ps new : List QueuePass) (p : QueuePass) → ps ≡ passes_of ls → AllByRecursion NeverProduces ps → p ≡ l.pass → NeverProduces l.pass → new ≡ ps ++ p ∷ []
-    → (new ≡ passes_of (ls ++ l ∷ [])) × AllByRecursion NeverProduces new
-line-more ls l ps new p is all one never put = (
-  put ∙ ap (λ (es : List QueuePass). es ++ p ∷ []) is ∙ ap (λ (e : QueuePass). passes_of ls ++ e ∷ []) one ∙ sym (map-append (λ (m : LineView). m.pass) ls (l ∷ [])),
-  subst (λ (es : List QueuePass). AllByRecursion NeverProduces es) (sym put) (All-push NeverProduces ps p all (subst (λ (e : QueuePass). NeverProduces e) (sym one) never)),
-)
-
--- callers at the turnstiles of lines are at those of their passes
-pub lines-at : (ls : List LineView) (ps : List QueuePass) (cs : List (List QueuePass)) → ps ≡ passes_of ls → AllByRecursion (AreAt (places ls)) cs → AllByRecursion (AreAt (turnstiles ps)) cs
-lines-at ls ps cs is at =
-    let same : turnstiles ps ≡ places ls = ap (λ (es : List QueuePass). turnstiles es) is ∙ places-passes ls in
-    subst (λ ts. AllByRecursion (AreAt ts) cs) (sym same) at
-  where
-    places-passes : (ms : List LineView) → turnstiles (passes_of ms) ≡ places ms
-    places-passes [] = refl
-    places-passes (m ∷ ms) = ap (λ ts. m.pass.turnstile ∷ ts) (places-passes ms)
-
--- so what the lines' passes made of the callers is gathered from them
-pub lines-gather : (ls : List LineView) (ps : List QueuePass) (cs : List (List QueuePass)) (rs : List QueuePass) → ps ≡ passes_of ls → AllByRecursion (AreAt (places ls)) cs → AllByRecursion NeverProduces ps → JoinsEach ps cs rs
-    → Gathers (passes_of ls) cs rs
-lines-gather ls ps cs rs is at never j =
-    subst (λ (es : List QueuePass). Gathers es cs rs) is (gathers ps cs rs (lines-at ls ps cs is at) never j)
+-- so what the lines' passes made of callers at their turnstiles is gathered from them
+pub lines-gather : (ls : List LineView) (cs : List (List QueuePass)) (rs : List QueuePass) → AllByRecursion (AreAt (places ls)) cs → AllByRecursion NeverProduces (passes_of ls) → JoinsEach (passes_of ls) cs rs → Gathers (passes_of ls) cs rs
+lines-gather ls cs rs at never j =
+    let taken = each-taken (passes_of ls) cs rs (subst (λ ts. AllByRecursion (AreAt ts) cs) (sym (line-turnstiles ls)) at) j in
+    record { whole = each-whole (passes_of ls) cs rs j; first = taken.0; others = taken.1; never = never }

@@ -1,26 +1,12 @@
 -- The ends of turnstiles, one after another.
-use Rattle.std.proofs.Common.{◌≡◌, ◌≢◌, ℕ, zero, suc, ◌+◌, ◌<◌, ◌≤◌, inl, inr, List, [], ◌∷◌, ◌++◌, length, map, Result, Ok, IfOk, refl, sym, ap, subst, ◌∙◌, arith}
-use Rattle.std.proofs.lemmas.List.{append-nil, length-map, map-append}
-use Rattle.std.specs.Prelude.{AllPairs}
-use Rattle.std.specs.declared.alloc.AllocError.{AllocError}
+use Rattle.silo_threads.proofs.Prelude.{BeganEmpty, after, replied, QueuePass, ◌≡◌, ◌≢◌, ℕ, zero, suc, ◌+◌, ◌<◌, ◌≤◌, inl, inr, List, [], ◌∷◌, ◌++◌, length, map, Result, Ok, IfOk, refl, sym, ap, subst, ◌∙◌, arith, append-nil, length-map, map-append, AllPairs, AllocError, All-push, Reply, Op, PlainPartition, IsOf, numbers_of, FirstCounted, FromAll, all_numbers, Own, Origin, Entry}
 use Rattle.stream_laws.specs.Laws.{OneHistory}
-use Rattle.stream_model.specs.declared.op.Op.{Op}
-use Rattle.stream_model.specs.declared.plain.PlainPartition.{PlainPartition}
-use Rattle.stream_model.specs.Replies.{Reply}
-use Rattle.turnstile.specs.declared.history.Entry.{Entry}
-use Rattle.turnstile.specs.Calls.{IsOf, numbers_of}
-use Rattle.turnstile.specs.Closing.{FirstCounted, FromAll, all_numbers}
-use Rattle.turnstile.specs.History.{Own}
-use Rattle.turnstile.specs.Passes.{Origin}
-use Rattle.shared_partition.specs.Partitions.{BeganEmpty, after, replied}
 use Rattle.shared_partition.proofs.Partitions.{legal-leaves, legal-tells}
-use Rattle.silo_loops.specs.Lines.{QueuePass}
 use Rattle.silo_threads.specs.declared.ending.closing.Closing.{Closing}
 use Rattle.silo_threads.specs.declared.ending.closing.Closing.TheVariants as closing
 use Rattle.silo_threads.specs.declared.ending.closing.End.{End}
 use Rattle.silo_threads.specs.declared.ending.closing.End.TheVariants as end
 use Rattle.silo_threads.specs.Closing.{AreTraces, HasEnd, IsClosing, IsEnd, IsMissing, IsMissingFirst, IsTraceOf}
-use Rattle.stream_ident.proofs.EachOf.{All-push}
 
 -- a turnstile that was closed with one pass
 closed-trace : (t : Origin PlainPartition) (p : QueuePass) (history : List (Entry Op Reply)) (partition : PlainPartition) → OneHistory → IsOf t p → BeganEmpty t.start

@@ -2,8 +2,6 @@
 //!
 //! A [`Caller`] has a pass at the turnstile of each queue, and the doorbell of the cluster's loops. It is split for
 //! another thread, and joined again. What is proved of one history holds of all that each of its passes has seen.
-//!
-//! Not claimed: that a call's turn comes, and any order between callers that never met.
 
 mod caller;
 mod queue_caller;

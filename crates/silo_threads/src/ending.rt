@@ -3,8 +3,6 @@
 //! The passes of the callers are taken in, each queue is asked whether it is quiet, the turnstiles are closed, and
 //! the report is written: [`finish`] does all of it, and the functions before it one step each. Before that, [`drain`]
 //! waits until all queues are quiet.
-//!
-//! Not claimed: that a turn comes, and that a drain ends.
 
 mod asking;
 mod closing;

@@ -2,12 +2,15 @@
 ghost use Rattle.std.specs.Prelude.{◌≡◌, ◌<◌, length, IfOk, MatchResult, OnErr};
 ghost use Rattle.step_core.specs.Figures.{figures_of, subscription_figures_of};
 ghost use Rattle.step_core.specs.Replied.{Shows};
+ghost use Rattle.std.specs.List.{AllByRecursion};
 ghost use Rattle.silo_loops.specs.Fronts.{AllZipFront};
+ghost use Rattle.silo_loops.specs.Lines.{NeverProduces};
+ghost use Rattle.silo_threads.specs.Gathering.{passes_of};
 ghost use Rattle.silo_threads.specs.Calls.{AreAlike, CallerCalls, CallerLooks, CallerSplits, JoinsAll, SplitsOff, TakesBack, joined_passes, turnstiles};
 
 use crate::callers::queue_caller::QueueCaller;
 use shared_partition::{Gate, QueueHistory};
-use silo_loops::{Doorbell, TurnRoom};
+use silo_loops::{Doorbell, Line, TurnRoom};
 use std::alloc::{AllocError, Global};
 use std::marker::Model;
 use std::sync::{Arc, Wait};
@@ -61,6 +64,26 @@ impl<G: Gate, H: QueueHistory> Caller<G, H> {
             queues,
             events: room.into_events(),
         }
+    }
+
+    /// A caller with the passes of these lines, which rings at this doorbell.
+    ///
+    /// # Errors
+    /// The call failed to allocate. What was given is lost then.
+    pub(crate) fn of_lines(
+        alloc: Global,
+        doorbell: Arc<Doorbell, Global>,
+        lines: Vec<Line<G, H>>,
+    ) -> Result<Caller<G, H>, AllocError>
+        ensures passes { IfOk result (λ caller. caller ≡ passes_of lines.items) }
+        ensures never { IfOk result (λ caller. AllByRecursion NeverProduces caller) }
+    {
+        let mut queues = Vec::with_capacity(alloc, lines.len())?;
+        for line in lines {
+            queues.push_reserved(line_caller(line));
+        }
+        let room = TurnRoom::new(alloc)?;
+        Ok(Caller::new(doorbell, queues, room))
     }
 
     /// How many queues there are.
@@ -196,6 +219,15 @@ impl<G: Gate, H: QueueHistory> Caller<G, H> {
     }
 }
 
+// A caller with the pass of a line.
+fn line_caller<G: Gate, H: QueueHistory>(line: Line<G, H>) -> QueueCaller<G, H>
+    ensures pass { result ≡ line.pass }
+    ensures never { NeverProduces line.pass }
+{
+    let (turnstile, pass) = line.into_parts();
+    QueueCaller::new(turnstile, pass)
+}
+
 // One call at one queue.
 fn ask_at<G: Gate, H: QueueHistory, R: Wait>(
     rt: &R,
@@ -263,7 +295,7 @@ fn split_all<G: Gate, H: QueueHistory>(
     Ok(made)
 }
 
-// Joins each of the others to the one at its place. There may be fewer of them.
+// Joins each of the others to the one at its place, from the last on. There may be fewer of them.
 fn join_all<G: Gate, H: QueueHistory>(
     queues: &mut Vec<QueueCaller<G, H>>,
     mut others: Vec<QueueCaller<G, H>>,

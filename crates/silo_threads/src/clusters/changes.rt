@@ -1,6 +1,6 @@
 //! Silos that come and go.
-ghost use Rattle.std.specs.Prelude.{◌≡◌, ◌<◌, [], ◌∷◌, ◌++◌, length, map, Contains, Some, slice_get, IfErr, IfOk, OnErr, OnOk};
-ghost use Rattle.std.specs.List.{AllByRecursion, AllZip, range_with_len};
+ghost use Rattle.std.specs.Prelude.{◌≡◌, ◌<◌, [], ◌∷◌, ◌++◌, length, Contains, Some, slice_get, IfErr, IfOk, OnErr, OnOk};
+ghost use Rattle.std.specs.List.{AllByRecursion, AllZip};
 ghost use Rattle.turnstile.specs.Recorded.{recorded};
 ghost use Rattle.silo_loops.specs.Silos.{AreSplitOff, AreTakenIn, HasRun, HaveCauses, IsFresh, IsSiloAt, SiloView};
 ghost use Rattle.silo_threads.specs.Changes.{HaveOnlySeen, HaveStayed};

@@ -441,9 +441,6 @@ impl<G: Gate, H: QueueHistory, D: DirectoryHistory> Cluster<G, H, D> {
     /// Takes back the loops of a parked cluster, and ends it as [`finish`](Cluster::finish) does. Where loops of its
     /// silos are neither given here nor were given before, their passes are missing.
     ///
-    /// Where several answers could be given, it is `InUse`, else `NotAll`, `Limit`, `RoundLimit`, `NotQuiet`, and
-    /// `Report` where none of these could be.
-    ///
     /// # Errors
     /// The call failed to allocate, or a loop failed to before. Nothing is handed back.
     pub fn finish_parked<R: Wait>(

@@ -1,41 +1,17 @@
 //! What a new cluster is made of: its turnstiles, its own passes, and its first caller.
-ghost use Rattle.std.specs.Prelude.{◌≡◌, [], length, map, IfOk, OnOk};
-ghost use Rattle.std.specs.List.{AllByRecursion, range_with_len};
-ghost use Rattle.turnstile.specs.Calls.{first_pass};
-ghost use Rattle.silo_threads.specs.Calls.{IsUnused, turnstiles};
-ghost use Rattle.silo_loops.specs.Lines.{LineView, places};
-ghost use Rattle.silo_threads.specs.Clusters.{AreAtQueues, HaveSeenNone, IsAtDirectory, IsAtQueue, IsConfig, IsOpened, opening, opening_directory};
+ghost use Rattle.std.specs.Prelude.{◌≡◌, [], length, IfOk, OnOk};
+ghost use Rattle.std.specs.List.{range_with_len};
+ghost use Rattle.silo_threads.specs.Clusters.{AreAtQueues, HaveSeenNone, IsAtDirectory, IsAtQueue, IsConfig, IsOpened};
 
-use crate::callers::{Caller, QueueCaller};
+use crate::callers::Caller;
 use crate::clusters::config::Config;
 use crate::operators::Operator;
 use shared_partition::{DirectoryHistory, Gate, QueueHistory, SharedDirectory, SharedPartition};
-use silo_loops::{DirectoryLine, Doorbell, Line, TurnRoom, split_lines};
+use silo_loops::{DirectoryLine, Doorbell, Line, split_lines};
 use std::alloc::{AllocError, Global};
 use std::sync::{Arc, Wait};
 use stream_ident::MOST_PERMITS;
-use turnstile::{PassOf, Turnstile};
-
-// A turnstile over an empty partition, and the first pass of it.
-fn open_turnstile<G: Gate, H: QueueHistory>(
-    alloc: Global,
-    gate: Arc<G, Global>,
-    config: &Config,
-    queue: usize,
-) -> Result<
-    (
-        Turnstile<SharedPartition<G, H>>,
-        PassOf<SharedPartition<G, H>>,
-    ),
-    AllocError,
->
-    requires { IsConfig config.now }
-    ensures start { IfOk result (λ r. r.0.start ≡ opening config.now) }
-    ensures pass { IfOk result (λ r. r.1 ≡ first_pass r.0) }
-{
-    let shared = SharedPartition::new(alloc, gate, queue, config.blocks, config.limits)?;
-    Turnstile::new(alloc, shared, config.history)
-}
+use turnstile::Turnstile;
 
 // A line with the first pass of the partition of a queue.
 fn open_queue<G: Gate, H: QueueHistory>(
@@ -49,7 +25,8 @@ fn open_queue<G: Gate, H: QueueHistory>(
     ensures unseen { IfOk result (λ line. line.pass.seen ≡ []) }
 {
     let gate = Arc::try_clone(gate)?;
-    let (turnstile, pass) = open_turnstile(alloc, gate, config, queue)?;
+    let empty = SharedPartition::new(alloc, gate, queue, config.blocks, config.limits)?;
+    let (turnstile, pass) = Turnstile::new(alloc, empty, config.history)?;
     let shared = Arc::new(alloc, turnstile)?;
     Ok(Line::new(queue, shared, pass))
 }
@@ -72,19 +49,6 @@ fn open_queues<G: Gate, H: QueueHistory>(
     Ok(lines)
 }
 
-// A turnstile over a directory without grains, and the first pass of it.
-fn open_places<D: DirectoryHistory>(
-    alloc: Global,
-    config: &Config,
-) -> Result<(Turnstile<SharedDirectory<D>>, PassOf<SharedDirectory<D>>), AllocError>
-    ensures start { IfOk result (λ r. r.0.start ≡ opening_directory config.now) }
-    ensures pass { IfOk result (λ r. r.1 ≡ first_pass r.0) }
-{
-    let shared = SharedDirectory::new(alloc, MOST_PERMITS);
-    let opened = Turnstile::new(alloc, shared, config.history)?;
-    Ok(opened)
-}
-
 // A line with the first pass of the directory.
 fn open_directory<D: DirectoryHistory>(
     alloc: Global,
@@ -92,40 +56,10 @@ fn open_directory<D: DirectoryHistory>(
 ) -> Result<DirectoryLine<D>, AllocError>
     ensures { IfOk result (λ line. IsAtDirectory config.now line) }
 {
-    let (turnstile, pass) = open_places(alloc, config)?;
+    let empty = SharedDirectory::new(alloc, MOST_PERMITS);
+    let (turnstile, pass) = Turnstile::new(alloc, empty, config.history)?;
     let shared = Arc::new(alloc, turnstile)?;
     Ok(DirectoryLine::new(shared, pass))
-}
-
-// A caller with a pass that is split off at each queue.
-fn first_caller<G: Gate, H: QueueHistory>(
-    alloc: Global,
-    doorbell: Arc<Doorbell, Global>,
-    lines: &mut Vec<Line<G, H>>,
-) -> Result<Caller<G, H>, AllocError>
-    ensures same { OnOk result (lines.new.items ≡ lines.old.items) }
-    ensures beside { IfOk result (λ caller. turnstiles caller ≡ places lines.old.items) }
-    ensures unused { IfOk result (λ caller. AllByRecursion IsUnused caller) }
-{
-    let own = split_lines(alloc, lines)?;
-    let queues = queue_callers(alloc, own)?;
-    let room = TurnRoom::new(alloc)?;
-    Ok(Caller::new(doorbell, queues, room))
-}
-
-// A caller of each queue with the pass of its line.
-fn queue_callers<G: Gate, H: QueueHistory>(
-    alloc: Global,
-    lines: Vec<Line<G, H>>,
-) -> Result<Vec<QueueCaller<G, H>>, AllocError>
-    ensures { IfOk result (λ queues. queues.items ≡ map (λ (l : LineView). l.pass) lines.items) }
-{
-    let mut queues = Vec::with_capacity(alloc, lines.len())?;
-    for line in lines {
-        let (turnstile, pass) = line.into_parts();
-        queues.push_reserved(QueueCaller::new(turnstile, pass));
-    }
-    Ok(queues)
 }
 
 // So many silos live from now on, numbered from 0 on.
@@ -155,7 +89,8 @@ pub(crate) fn open<G: Gate, H: QueueHistory, D: DirectoryHistory, R: Wait>(
 {
     let doorbell = Arc::new(alloc, Doorbell::new(alloc, config.queues, 0)?)?;
     let mut lines = open_queues(alloc, &gate, config)?;
-    let caller = first_caller(alloc, Arc::try_clone(&doorbell)?, &mut lines)?;
+    let own = split_lines(alloc, &mut lines)?;
+    let caller = Caller::of_lines(alloc, Arc::try_clone(&doorbell)?, own)?;
     let directory = open_directory(alloc, config)?;
     let mut operator = Operator::new(alloc, gate, doorbell, lines, directory)?;
     enlist_first(&mut operator, config.silos)?;

@@ -1,7 +1,6 @@
 //! Whether each queue of a cluster is quiet.
 ghost use Rattle.std.specs.Prelude.{◌≡◌};
 ghost use Rattle.silo_threads.specs.Calls.{turnstiles};
-ghost use Rattle.step_core.specs.Replied.{reply_of};
 ghost use Rattle.silo_threads.specs.Asking.{AsksQuiet, pending_of};
 
 use crate::callers::Caller;

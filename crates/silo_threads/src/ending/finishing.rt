@@ -90,15 +90,26 @@ pub fn finish<G: Gate, H: QueueHistory, R: Wait>(
         return Err(AllocError);
     }
     let mut caller = gather(alloc, doorbell, lines, callers)?;
-    let asked = match ask_quiet(rt, alloc, &mut caller) {
-        Ok(quiet) => Some(quiet),
-        Err(Refusal::HistoryFull) => None,
-        Err(Refusal::Memory) => return Err(AllocError),
-    };
+    let asked = ask(rt, alloc, &mut caller)?;
     match close(alloc, caller)? {
         Closing::InUse => Ok(Finished::InUse),
         Closing::NotAll { queue, missing } => Ok(Finished::NotAll { queue, missing }),
         Closing::Traced(traces) => answer(alloc, ends, asked, traces),
+    }
+}
+
+// What the queues answer, and none where a history is full.
+fn ask<G: Gate, H: QueueHistory, R: Wait>(
+    rt: &R,
+    alloc: Global,
+    caller: &mut Caller<G, H>,
+) -> Result<Option<Quiet>, AllocError>
+    ensures { IfOk result (λ asked. CameTo asked caller.old caller.new) }
+{
+    match ask_quiet(rt, alloc, caller) {
+        Ok(quiet) => Ok(Some(quiet)),
+        Err(Refusal::HistoryFull) => Ok(None),
+        Err(Refusal::Memory) => Err(AllocError),
     }
 }
 

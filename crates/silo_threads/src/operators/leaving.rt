@@ -1,5 +1,5 @@
 //! A silo that goes: its grains leave the directory and the partitions.
-ghost use Rattle.std.specs.Prelude.{◌≡◌, length, IfErr, OnOk};
+ghost use Rattle.std.specs.Prelude.{length, IfErr, OnOk};
 ghost use Rattle.silo_loops.specs.Silos.{GoOn, GoesOn, LineGoesOn};
 ghost use Rattle.silo_threads.specs.Changes.{AreDeactivated, HasFound, HasFoundOne, HasMade, HasMovedNowhere, HasSince, HaveMovedNowhere, HoldsGrains, IsDeactivated, IsDeactivation, IsNoneLeft, Releases};
 

@@ -1,7 +1,6 @@
 //! Queues that go to agents on other silos.
 ghost use Rattle.std.specs.Prelude.{◌≡◌, ◌≢◌, length, IfErr, OnOk};
 ghost use Rattle.silo_loops.specs.Silos.{GoOn, LineGoesOn};
-ghost use Rattle.step_core.specs.Replied.{reply_of};
 ghost use Rattle.silo_threads.specs.Changes.{HaveMoved, HaveOnlySeen, HaveStayed, IsAtSilo, IsUnmoved, LineHasOnlySeen, StaysBehind, moved_of};
 
 use crate::operators::halt::Halt;

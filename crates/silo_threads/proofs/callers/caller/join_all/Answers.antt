@@ -1,6 +1,4 @@
-use Rattle.std.proofs.Common.{◌≡◌, List, [], arith, refl, rules, set, subst, sym}
-use Rattle.std.proofs.lemmas.Grind.{common_steps}
-use Rattle.silo_loops.specs.Lines.{QueuePass}
+use Rattle.silo_threads.proofs.Prelude.{QueuePass, ◌≡◌, List, [], arith, refl, rules, set, subst, sym, common_steps}
 use Rattle.silo_threads.specs.Calls.{JoinsAll}
 use Rattle.silo_threads.proofs.Splitting.{join-more, join-next}
 use Rattle.silo_threads.proofs.callers.caller.join_all.Goals as goal

@@ -1,6 +1,4 @@
-use Rattle.std.proofs.Common.{List, vec_len}
-use Rattle.silo_loops.specs.Lines.{QueuePass}
-use Rattle.silo_loops.specs.Fronts.{AllZipFront}
+use Rattle.silo_threads.proofs.Prelude.{AllZipFront, QueuePass, List, vec_len}
 use Rattle.silo_threads.specs.Calls.{AreAlike, JoinsAll}
 use Rattle.silo_threads.proofs.callers.caller.join_all.Given as goal
 

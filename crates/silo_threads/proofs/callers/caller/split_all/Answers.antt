@@ -1,10 +1,10 @@
-use Rattle.std.proofs.Common.{arith, refl, rules}
-use Rattle.std.proofs.lemmas.Grind.{common_steps}
-use Rattle.silo_threads.proofs.Splitting.{all-whole, none-back, on-err, refused-alike, refused-back, split-more, splits-off, takes-back}
+use Rattle.silo_threads.proofs.Prelude.{arith, refl, rules, common_steps}
+use Rattle.stream_model.proofs.Answering.{on-error}
+use Rattle.silo_threads.proofs.Splitting.{all-whole, none-back, refused-alike, refused-back, split-more, splits-off, takes-back}
 use Rattle.silo_threads.proofs.callers.caller.split_all.Goals as goal
 
 pub returns-in_err-made-clause-err : goal.returns-in_err-made-clause-err
-returns-in_err-made-clause-err g c = on-err c.from_residual.result _ (takes-back c.args.queues.now.items c.args.queues.now.items (none-back c.args.queues.now.items))
+returns-in_err-made-clause-err g c = on-error c.from_residual.result (takes-back c.args.queues.now.items c.args.queues.now.items (none-back c.args.queues.now.items))
 
 pub join_all-requires-after_bounds : goal.join_all-requires-after_bounds
 join_all-requires-after_bounds g c = λ κs bounds.

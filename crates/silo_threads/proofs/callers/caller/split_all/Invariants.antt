@@ -1,6 +1,4 @@
-use Rattle.std.proofs.Common.{◌≡◌, length, vec_capacity}
-use Rattle.turnstile.specs.Calls.{IsSplitOff}
-use Rattle.silo_loops.specs.Fronts.{AllZipFront}
+use Rattle.silo_threads.proofs.Prelude.{AllZipFront, ◌≡◌, length, vec_capacity, IsSplitOff}
 use Rattle.silo_threads.proofs.callers.caller.split_all.Given as goal
 
 abbrev pub invariant-loop-at : goal.invariant-loop-at

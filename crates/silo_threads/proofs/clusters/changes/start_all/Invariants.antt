@@ -1,16 +1,6 @@
-use Rattle.std.proofs.Common.{◌≡◌, length, vec_capacity}
-use Rattle.silo_threads.specs.Operators.{HasOnlyGoneOn}
-use Rattle.silo_threads.specs.Clusters.{AreFresh, AreStarted, RunsOn}
+use Rattle.silo_threads.proofs.Prelude.{◌≡◌, vec_capacity}
+use Rattle.silo_threads.proofs.Standing.{AreMade}
 use Rattle.silo_threads.proofs.clusters.changes.start_all.Given as goal
 
 abbrev pub invariant-loop-silo : goal.invariant-loop-silo
-invariant-loop-silo g l =
-    record {
-      same : l.operator ≡ l.fn.operator;
-      only : HasOnlyGoneOn l.fn.operator l.operator;
-      many : length l.running.items ≡ l.silo;
-      started : AreStarted l.silo l.running.items;
-      fresh : AreFresh l.fn.rounds l.running.items;
-      runs : RunsOn l.operator l.running.items;
-      room : vec_capacity l.running ≡ l.fn.silos;
-    }
+invariant-loop-silo g l = record { made : AreMade l.fn.rounds l.silo l.fn.operator l.operator l.running.items; room : vec_capacity l.running ≡ l.fn.silos }

@@ -1,5 +1,4 @@
-use Rattle.std.proofs.Common.{subst, sym}
-use Rattle.silo_loops.specs.Silos.{AreSplitOff}
+use Rattle.silo_threads.proofs.Prelude.{AreSplitOff, subst, sym}
 use Rattle.silo_threads.proofs.Standing.{only-trans, same-at}
 use Rattle.silo_threads.proofs.clusters.changes.start_silo.Goals as goal
 

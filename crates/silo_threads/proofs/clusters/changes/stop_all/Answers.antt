@@ -1,7 +1,4 @@
-use Rattle.std.proofs.Common.{[], List, refl, subst, sym, ◌++◌, ◌∷◌}
-use Rattle.std.proofs.lemmas.List.Elements.{AllZip-push}
-use Rattle.std.specs.List.{AllZip}
-use Rattle.silo_loops.specs.Silos.{HasRun, SiloView}
+use Rattle.silo_threads.proofs.Prelude.{HasRun, SiloView, [], List, refl, subst, sym, ◌++◌, ◌∷◌, AllZip-push, AllZip}
 use Rattle.silo_threads.proofs.Spreading.{only-refl}
 use Rattle.silo_threads.specs.Clusters.{HaveEnded, RunsOn}
 use Rattle.silo_threads.proofs.Standing.{ended-push, only-trans, same-at, sits-on}

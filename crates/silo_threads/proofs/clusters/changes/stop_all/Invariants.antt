@@ -1,6 +1,5 @@
-use Rattle.std.specs.List.{AllZip}
+use Rattle.silo_threads.proofs.Prelude.{HasRun, AllZip}
 use Rattle.turnstile.specs.Recorded.{recorded}
-use Rattle.silo_loops.specs.Silos.{HasRun}
 use Rattle.silo_threads.specs.Operators.{HasOnlyGoneOn}
 use Rattle.silo_threads.specs.Clusters.{HaveEnded, RunsOn}
 use Rattle.silo_threads.proofs.clusters.changes.stop_all.Given as goal

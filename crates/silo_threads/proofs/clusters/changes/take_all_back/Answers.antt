@@ -1,11 +1,4 @@
-use Rattle.std.proofs.Common.{List, ap, arith, refl, rules, subst, sym, ◌∙◌}
-use Rattle.std.proofs.lemmas.Grind.{common_steps}
-use Rattle.std.proofs.lemmas.Iterator.Adapters.{YieldsList-from_vec}
-use Rattle.std.proofs.lemmas.Iterator.Consumers.{YieldsList-end}
-use Rattle.std.proofs.lemmas.List.{map-id}
-use Rattle.std.specs.List.{AllByRecursion}
-use Rattle.stream_ident.proofs.EachOf.{All-push}
-use Rattle.silo_loops.specs.Silos.{SiloView}
+use Rattle.silo_threads.proofs.Prelude.{SiloView, List, ap, arith, refl, rules, subst, sym, ◌∙◌, common_steps, YieldsList-from_vec, YieldsList-end, map-id, AllByRecursion, All-push}
 use Rattle.silo_threads.specs.declared.ending.ends.LoopEnds.{LoopEnds}
 use Rattle.silo_threads.proofs.Spreading.{only-refl}
 use Rattle.silo_threads.specs.Clusters.{HaveComeBack, RunsOn, all_noted, noted}
@@ -32,14 +25,12 @@ loop-loops-preserved g c =
           (all-back c.loop-loops.operator c.take_back.new.self c.loop-loops.yielded c.take_back.ensures.only.on c.loop-loops.invariant.back) (record { taken = c.take_back.ensures.taken; causes = c.note_ends-ends.ensures.causes });
     }
 
-pub returns-clause-ends : goal.returns-clause-ends
-returns-clause-ends g c =
+pub returns : goal.returns
+returns g c =
     let ending = YieldsList-end (YieldsList-from_vec {s = c.into_iter-loops-iterator.result} c.args.silos.items c.into_iter-loops-iterator.ensures.into_iter_gives.0 (first_of (search rules, grind (arith, common_steps)))) c.loop-loops.yielded c.loop-loops.loops-iterator c.loop-loops.yielded_by c.next.result c.next.new.self c.in-None.is c.next.ensures.steps in
     let whole = sym (map-id c.loop-loops.yielded) ∙ ending.0 in
-    c.loop-loops.invariant.ends ∙ ap (λ (ss : List SiloView). all_noted c.args.ends ss) whole
-
-pub returns-clause-back : goal.returns-clause-back
-returns-clause-back g c =
-    let ending = YieldsList-end (YieldsList-from_vec {s = c.into_iter-loops-iterator.result} c.args.silos.items c.into_iter-loops-iterator.ensures.into_iter_gives.0 (first_of (search rules, grind (arith, common_steps)))) c.loop-loops.yielded c.loop-loops.loops-iterator c.loop-loops.yielded_by c.next.result c.next.new.self c.in-None.is c.next.ensures.steps in
-    let whole = sym (map-id c.loop-loops.yielded) ∙ ending.0 in
-    subst (λ (ss : List SiloView). AllByRecursion (HaveComeBack c.loop-loops.operator.lines c.loop-loops.operator.directory) ss) whole c.loop-loops.invariant.back
+    record {
+      only = c.loop-loops.invariant.only;
+      ends = c.loop-loops.invariant.ends ∙ ap (λ (ss : List SiloView). all_noted c.args.ends ss) whole;
+      back = subst (λ (ss : List SiloView). AllByRecursion (HaveComeBack c.loop-loops.operator.lines c.loop-loops.operator.directory) ss) whole c.loop-loops.invariant.back;
+    }

@@ -1,5 +1,4 @@
-use Rattle.std.proofs.Common.{◌≡◌}
-use Rattle.std.specs.List.{AllByRecursion}
+use Rattle.silo_threads.proofs.Prelude.{◌≡◌, AllByRecursion}
 use Rattle.silo_threads.specs.Operators.{HasOnlyGoneOn}
 use Rattle.silo_threads.specs.Clusters.{HaveComeBack, RunsOn, all_noted}
 use Rattle.silo_threads.proofs.clusters.changes.take_all_back.Given as goal

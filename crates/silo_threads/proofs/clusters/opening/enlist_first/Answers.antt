@@ -1,4 +1,4 @@
-use Rattle.std.proofs.Common.{List, ℕ, Contains, ap, subst, ◌∙◌, ◌++◌, ◌∷◌, []}
+use Rattle.silo_threads.proofs.Prelude.{List, ℕ, Contains, ap, subst, ◌∙◌, ◌++◌, ◌∷◌, []}
 use Rattle.silo_threads.specs.Operators.{OperatorView}
 use Rattle.silo_threads.proofs.Standing.{range-absent, range-next}
 use Rattle.silo_threads.proofs.clusters.opening.enlist_first.Goals as goal

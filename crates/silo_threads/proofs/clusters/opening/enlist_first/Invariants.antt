@@ -1,5 +1,4 @@
-use Rattle.std.proofs.Common.{◌≡◌}
-use Rattle.std.specs.List.{range_with_len}
+use Rattle.silo_threads.proofs.Prelude.{◌≡◌, range_with_len}
 use Rattle.silo_threads.proofs.clusters.opening.enlist_first.Given as goal
 
 abbrev pub invariant-loop-silo : goal.invariant-loop-silo

@@ -1,4 +1,4 @@
-use Rattle.std.proofs.Common.{◌≡◌, length, vec_capacity}
+use Rattle.silo_threads.proofs.Prelude.{◌≡◌, length, vec_capacity}
 use Rattle.silo_threads.specs.Clusters.{AreAtQueues, HaveSeenNone}
 use Rattle.silo_threads.proofs.clusters.opening.open_queues.Given as goal
 

@@ -1,8 +1,4 @@
-use Rattle.std.proofs.Common.{◌≡◌, ◌∙◌, Result, Ok, Err, arith, ap, sym, subst, rules}
-use Rattle.std.proofs.lemmas.Grind.{common_steps}
-use Rattle.std.proofs.lemmas.Result.{err_from_is_err_and}
-use Rattle.stream_model.specs.Replies.{Reply}
-use Rattle.turnstile.specs.declared.turnstile.Refusal.{Refusal}
+use Rattle.silo_threads.proofs.Prelude.{◌≡◌, ◌∙◌, Result, Ok, Err, arith, ap, sym, subst, rules, common_steps, err_from_is_err_and, Reply, Refusal}
 use Rattle.silo_threads.specs.declared.ending.asking.Quiet.{Quiet}
 use Rattle.silo_threads.specs.Asking.{AsksQuiet, AsksUpTo}
 use Rattle.silo_threads.proofs.Looking.{asked-next, pending-reply, quiet-all, quiet-next, quiet-told}

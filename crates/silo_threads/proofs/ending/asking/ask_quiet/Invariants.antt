@@ -1,4 +1,4 @@
-use Rattle.std.proofs.Common.{◌≡◌}
+use Rattle.silo_threads.proofs.Prelude.{◌≡◌}
 use Rattle.silo_threads.specs.Calls.{turnstiles}
 use Rattle.silo_threads.proofs.Looking.{QuietUpTo}
 use Rattle.silo_threads.proofs.ending.asking.ask_quiet.Given as goal

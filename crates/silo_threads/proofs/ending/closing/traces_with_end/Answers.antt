@@ -1,5 +1,4 @@
-use Rattle.std.proofs.Common.{◌≡◌, length, arith, rules, subst}
-use Rattle.std.proofs.lemmas.Grind.{common_steps}
+use Rattle.silo_threads.proofs.Prelude.{◌≡◌, length, arith, rules, subst, common_steps}
 use Rattle.silo_threads.specs.Closing.{IsEnd}
 use Rattle.silo_threads.proofs.Tracing.{stored-missing, stored-more}
 use Rattle.silo_threads.proofs.ending.closing.traces_with_end.Goals as goal

@@ -1,6 +1,4 @@
-use Rattle.std.proofs.Common.{◌≡◌, ◌+◌, ◌∙◌, ℕ, Err, Ok, arith, refl, rules, subst}
-use Rattle.std.proofs.lemmas.Grind.{common_steps}
-use Rattle.turnstile.specs.declared.turnstile.Refusal.{Refusal}
+use Rattle.silo_threads.proofs.Prelude.{◌≡◌, ◌+◌, ◌∙◌, ℕ, Err, Ok, arith, refl, rules, subst, common_steps, Refusal}
 use Rattle.turnstile.specs.declared.turnstile.Refusal.TheVariants.{HistoryFull, Memory}
 use Rattle.silo_threads.specs.declared.ending.asking.Quiet.{Quiet}
 use Rattle.silo_threads.specs.declared.ending.asking.Quiet.TheVariants.{All}

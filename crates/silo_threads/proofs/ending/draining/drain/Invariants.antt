@@ -1,5 +1,4 @@
-use Rattle.std.proofs.Common.{◌≡◌}
-use Rattle.std.specs.List.{AllZip}
+use Rattle.silo_threads.proofs.Prelude.{◌≡◌, AllZip}
 use Rattle.silo_threads.specs.Calls.{turnstiles}
 use Rattle.silo_threads.specs.Draining.{LooksInVain, ProducesNone}
 use Rattle.silo_threads.proofs.ending.draining.drain.Given as goal

@@ -1,6 +1,5 @@
-use Rattle.std.proofs.Common.{◌≡◌, ◌∙◌, List, Option, Some, ap, map, subst}
+use Rattle.silo_threads.proofs.Prelude.{◌≡◌, ◌∙◌, List, Option, Some, ap, map, subst, PlainPartition}
 use Rattle.stream_script.specs.Report.{report_of}
-use Rattle.stream_model.specs.declared.plain.PlainPartition.{PlainPartition}
 use Rattle.silo_threads.specs.declared.ending.asking.Quiet.{Quiet}
 use Rattle.silo_threads.specs.declared.ending.asking.Quiet.TheVariants.{All}
 use Rattle.silo_threads.specs.Finishing.{CameTo}

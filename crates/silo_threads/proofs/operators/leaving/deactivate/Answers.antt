@@ -1,5 +1,4 @@
-use Rattle.std.proofs.Common.{refl}
-use Rattle.shared_partition.specs.Partitions.{after, replied}
+use Rattle.silo_threads.proofs.Prelude.{after, replied, refl}
 use Rattle.silo_threads.specs.Changes.{IsDeactivation}
 use Rattle.silo_threads.proofs.Changing.{nowhere-called}
 use Rattle.silo_threads.proofs.Making.{goes-called, made-called}

@@ -1,5 +1,4 @@
-use Rattle.std.proofs.Common.{ℕ}
-use Rattle.silo_loops.specs.Lines.{LineView}
+use Rattle.silo_threads.proofs.Prelude.{LineView, ℕ}
 use Rattle.silo_threads.specs.Changes.{HasMovedNowhere, HasSince, IsDeactivation}
 use Rattle.silo_threads.proofs.Changing.{Since}
 use Rattle.silo_threads.proofs.operators.leaving.deactivate_everywhere.Given as goal

@@ -1,5 +1,4 @@
-use Rattle.std.proofs.Common.{Ok, inr, subst}
-use Rattle.silo_loops.proofs.Going.{goes-refl, goes-trans, on-refl, on-trans}
+use Rattle.silo_threads.proofs.Prelude.{goes-refl, goes-trans, on-refl, on-trans, Ok, inr, subst}
 use Rattle.silo_threads.specs.declared.operators.halt.Halt.{Halt}
 use Rattle.silo_threads.specs.Changes.{HoldsGrains, Releases}
 use Rattle.silo_threads.specs.declared.operators.leaving.Release.{Release}
@@ -34,21 +33,20 @@ pub returns-in_err-deactivate_everywhere-in-Grain-clause-directory : goal.return
 returns-in_err-deactivate_everywhere-in-Grain-clause-directory g c =
     on-trans c.args.directory.now c.loop.directory c.take_grain.new.directory c.loop.invariant.directory (released-on c.args.silo c.loop.directory c.take_grain.result c.take_grain.new.directory c.take_grain.ensures)
 
-pub returns-in-NoneLeft-clause-deactivated : goal.returns-in-NoneLeft-clause-deactivated
-returns-in-NoneLeft-clause-deactivated g c =
+pub returns-in-NoneLeft : goal.returns-in-NoneLeft
+returns-in-NoneLeft g c =
     let e = c.loop.directory in
     let f = c.take_grain.new.directory in
     let taken = subst (λ (r : Release). Releases c.args.silo e (Ok r) f) c.in-NoneLeft.is c.in_ok-grain.ensures in
     let gone = all-gone c.args.silo c.args.directory.now e f c.args.lines.now.items c.loop.lines.items c.loop.invariant.directory taken c.loop.invariant.deactivated in
-    gone.0
-
-pub returns-in-NoneLeft-clause-none_left : goal.returns-in-NoneLeft-clause-none_left
-returns-in-NoneLeft-clause-none_left g c =
-    let e = c.loop.directory in
-    let f = c.take_grain.new.directory in
-    let taken = subst (λ (r : Release). Releases c.args.silo e (Ok r) f) c.in-NoneLeft.is c.in_ok-grain.ensures in
-    let gone = all-gone c.args.silo c.args.directory.now e f c.args.lines.now.items c.loop.lines.items c.loop.invariant.directory taken c.loop.invariant.deactivated in
-    gone.1
+    record {
+      on = c.loop.invariant.on;
+      directory = on-trans c.args.directory.now e f c.loop.invariant.directory (released-on c.args.silo e c.take_grain.result f c.take_grain.ensures);
+      nowhere = c.loop.invariant.nowhere;
+      deactivated = gone.0;
+      none_left = gone.1;
+      holds = tt;
+    }
 
 pub returns-in_err-grain-clause-holds : goal.returns-in_err-grain-clause-holds
 returns-in_err-grain-clause-holds g c =
@@ -69,6 +67,3 @@ returns-in_err-deactivate_everywhere-in-Grain-clause-holds g c =
 
 pub returns-in_err-grain-clause-directory : goal.returns-in_err-grain-clause-directory
 returns-in_err-grain-clause-directory g c = on-trans c.args.directory.now c.loop.directory c.take_grain.new.directory c.loop.invariant.directory (released-on c.args.silo c.loop.directory c.take_grain.result c.take_grain.new.directory c.take_grain.ensures)
-
-pub returns-in-NoneLeft-clause-directory : goal.returns-in-NoneLeft-clause-directory
-returns-in-NoneLeft-clause-directory g c = on-trans c.args.directory.now c.loop.directory c.take_grain.new.directory c.loop.invariant.directory (released-on c.args.silo c.loop.directory c.take_grain.result c.take_grain.new.directory c.take_grain.ensures)

@@ -1,5 +1,4 @@
-use Rattle.std.proofs.Common.{length}
-use Rattle.silo_loops.specs.Silos.{GoOn, GoesOn}
+use Rattle.silo_threads.proofs.Prelude.{GoOn, GoesOn, length}
 use Rattle.silo_threads.specs.Changes.{AreDeactivated, HasMade, HaveMovedNowhere, IsNoneLeft}
 use Rattle.silo_threads.proofs.operators.leaving.evict.Given as goal
 

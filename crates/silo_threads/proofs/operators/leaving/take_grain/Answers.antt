@@ -1,4 +1,4 @@
-use Rattle.std.proofs.Common.{inl, inr, ◌∙◌}
+use Rattle.silo_threads.proofs.Prelude.{inl, inr, ◌∙◌}
 use Rattle.activation_directory.specs.declared.op.DirectoryOp.TheVariants as asked
 use Rattle.shared_partition.specs.Directories.{after, replied}
 use Rattle.silo_threads.proofs.Making.{called-reply}

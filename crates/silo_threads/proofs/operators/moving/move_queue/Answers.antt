@@ -1,8 +1,5 @@
-use Rattle.std.proofs.Common.{◌≢◌, ◌∙◌, Ok, refl, subst, sym}
+use Rattle.silo_threads.proofs.Prelude.{after, replied, CallsOn, ◌≢◌, ◌∙◌, Ok, refl, subst, sym, Reply}
 use Rattle.stream_model.specs.declared.op.Op.TheVariants as op
-use Rattle.stream_model.specs.Replies.{Reply}
-use Rattle.shared_partition.specs.Partitions.{after, replied}
-use Rattle.silo_loops.specs.Lines.{CallsOn}
 use Rattle.silo_threads.specs.declared.operators.halt.Halt.{Halt}
 use Rattle.silo_threads.specs.Changes.{IsUnmoved, halt_of}
 use Rattle.silo_threads.proofs.Changing.{at-other, at-same, unmoved-refused, unmoved-spent}

@@ -1,6 +1,4 @@
-use Rattle.std.proofs.Common.{◌<◌, arith, length, refl, rules, set}
-use Rattle.std.proofs.lemmas.Grind.{common_steps}
-use Rattle.silo_loops.proofs.Going.{goes-length}
+use Rattle.silo_threads.proofs.Prelude.{goes-length, ◌<◌, arith, length, refl, rules, set, common_steps}
 use Rattle.silo_threads.specs.declared.operators.halt.Halt.{Halt}
 use Rattle.silo_threads.specs.Changes.{StaysBehind}
 use Rattle.silo_threads.proofs.Changing.{behind-at, seen-refl, seen-set, since-all, since-more, since-next, since-none, since-on}
@@ -16,14 +14,6 @@ index_mut-line-requires g c =
     let len = c.len-queue-end.ensures in
     let long = goes-length _ _ c.loop-queue.invariant.since.on in first_of (omega (arith, below, len, long), grind (arith, common_steps))
 
-pub returns-in_err-move_queue-clause-on : goal.returns-in_err-move_queue-clause-on
-returns-in_err-move_queue-clause-on g c =
-    let below = c.loop-queue-test.true in
-    let len = c.len-queue-end.ensures in
-    let long = goes-length _ _ c.loop-queue.invariant.since.on in
-    since-on _ c.args.lines.now.items c.loop-queue.lines.items _ c.loop-queue.queue c.index_mut-line.result.now c.move_queue.new.line (first_of (omega (arith, below, len, long), search rules, grind (arith, common_steps))) c.index_mut-line.ensures.value
-    c.move_queue.ensures.on refl c.loop-queue.invariant.since
-
 pub loop-queue-preserved : goal.loop-queue-preserved
 loop-queue-preserved g c =
     let below = c.loop-queue-test.true in
@@ -36,37 +26,35 @@ loop-queue-preserved g c =
       seen = seen-set c.args.lines.now.items c.loop-queue.lines.items c.loop-queue.queue line c.move_queue.new.line within c.index_mut-line.ensures.value c.move_queue.ensures.seen c.loop-queue.invariant.seen;
     }
 
-pub returns-in_err-move_queue-clause-seen : goal.returns-in_err-move_queue-clause-seen
-returns-in_err-move_queue-clause-seen g c =
+pub returns-in_err-move_queue : goal.returns-in_err-move_queue
+returns-in_err-move_queue g c =
     let below = c.loop-queue-test.true in
     let len = c.len-queue-end.ensures in
-    let long = goes-length _ _ c.loop-queue.invariant.since.on in
-    seen-set c.args.lines.now.items c.loop-queue.lines.items c.loop-queue.queue c.index_mut-line.result.now c.move_queue.new.line (omega (arith, below, len, long)) c.index_mut-line.ensures.value c.move_queue.ensures.seen c.loop-queue.invariant.seen
-
-pub returns-clause-moved : goal.returns-clause-moved
-returns-clause-moved g c =
-    let past = c.loop-queue-test.false in
-    let len = c.len-queue-end.ensures in
-    let all = since-all _ c.args.lines.now.items c.loop-queue.lines.items c.loop-queue.queue (omega (arith, past, len)) c.loop-queue.invariant.since in
-    λ queue was is had has. (all queue was is had has).0
-
-pub returns-clause-stayed : goal.returns-clause-stayed
-returns-clause-stayed g c =
-    let past = c.loop-queue-test.false in
-    let len = c.len-queue-end.ensures in
-    let all = since-all _ c.args.lines.now.items c.loop-queue.lines.items c.loop-queue.queue (omega (arith, past, len)) c.loop-queue.invariant.since in
-    λ queue was is had has. (all queue was is had has).1
-
-pub returns-in_err-move_queue-clause-behind : goal.returns-in_err-move_queue-clause-behind
-returns-in_err-move_queue-clause-behind g c =
-    let below = c.loop-queue-test.true in
-    let len = c.len-queue-end.ensures in
-    let long = goes-length _ _ c.loop-queue.invariant.since.on in
-    let within : c.loop-queue.queue < length c.loop-queue.lines.items = omega (arith, below, len, long) in
-    let why = c.in_err-move_queue.field-0.0 in
+    let since = c.loop-queue.invariant.since in
+    let long = goes-length _ _ since.on in
+    let old = c.args.lines.now.items in
     let lines = c.loop-queue.lines.items in
+    let at = c.loop-queue.queue in
+    let within : at < length lines = omega (arith, below, len, long) in
     let line = c.index_mut-line.result.now in
-    let fresh = set lines c.loop-queue.queue c.move_queue.new.line in
-    passed-on (λ (h : Halt). StaysBehind h c.args.lines.now.items fresh c.args.old.now c.args.new.now) c.from_residual.result why c.from_residual.ensures.1
-    (behind-at why c.args.lines.now.items lines fresh c.args.old.now c.args.new.now c.loop-queue.queue line c.move_queue.new.line within
-    (since-next _ c.args.lines.now.items lines c.loop-queue.queue line within c.index_mut-line.ensures.value c.loop-queue.invariant.since) refl c.in_err-move_queue.ensures.unmoved.0 c.in_err-move_queue.ensures.unmoved.1)
+    let read = c.index_mut-line.ensures.value in
+    let moved = c.move_queue.new.line in
+    let why = c.in_err-move_queue.field-0.0 in
+    let unmoved = c.in_err-move_queue.ensures.unmoved in
+    record {
+      on = since-on _ old lines _ at line moved within read c.move_queue.ensures.on refl since;
+      seen = seen-set old lines at line moved within read c.move_queue.ensures.seen c.loop-queue.invariant.seen;
+      moved = search rules;
+      stayed = search rules;
+      behind =
+          passed-on (λ (h : Halt). StaysBehind h old (set lines at moved) c.args.old.now c.args.new.now) c.from_residual.result why c.from_residual.ensures.1
+          (behind-at why old lines (set lines at moved) c.args.old.now c.args.new.now at line moved within (since-next _ old lines at line within read since) refl unmoved.0 unmoved.1);
+    }
+
+pub returns : goal.returns
+returns g c =
+    let past = c.loop-queue-test.false in
+    let len = c.len-queue-end.ensures in
+    let since = c.loop-queue.invariant.since in
+    let all = since-all _ c.args.lines.now.items c.loop-queue.lines.items c.loop-queue.queue (omega (arith, past, len)) since in
+    record { on = since.on; seen = c.loop-queue.invariant.seen; moved = λ queue was is had has. (all queue was is had has).0; stayed = λ queue was is had has. (all queue was is had has).1; behind = tt }

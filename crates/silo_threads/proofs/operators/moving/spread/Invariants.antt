@@ -1,5 +1,4 @@
-use Rattle.std.proofs.Common.{ℕ}
-use Rattle.std.specs.List.{slice_index}
+use Rattle.silo_threads.proofs.Prelude.{ℕ, slice_index}
 use Rattle.silo_threads.specs.Changes.{HaveOnlySeen, IsAtSilo}
 use Rattle.silo_threads.proofs.Changing.{Since}
 use Rattle.silo_threads.proofs.operators.moving.spread.Given as goal

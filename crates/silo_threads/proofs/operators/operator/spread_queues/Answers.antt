@@ -1,5 +1,4 @@
-use Rattle.std.proofs.Common.{List, ℕ, ap, length, sym, ◌∙◌}
-use Rattle.silo_loops.proofs.Going.{goes-length, goes-refl}
+use Rattle.silo_threads.proofs.Prelude.{goes-length, goes-refl, List, ℕ, ap, length, sym, ◌∙◌}
 use Rattle.silo_threads.proofs.Changing.{seen-refl}
 use Rattle.silo_threads.proofs.operators.operator.spread_queues.Goals as goal
 

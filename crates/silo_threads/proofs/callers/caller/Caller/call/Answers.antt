@@ -1,15 +1,15 @@
-use Rattle.std.proofs.Common.{◌∙◌, List, ap, subst, sym}
+use Rattle.silo_threads.proofs.Prelude.{QueuePass, ◌∙◌, List, ap, subst, sym}
 use Rattle.stream_ident.specs.declared.event.Event.{Event}
 use Rattle.step_core.specs.Replied.{HasEvents}
-use Rattle.silo_loops.specs.Lines.{QueuePass}
 use Rattle.silo_threads.specs.Calls.{turnstiles}
 use Rattle.silo_threads.proofs.Showing.{has-events}
-use Rattle.silo_threads.proofs.Splitting.{turnstiles-called}
+use Rattle.silo_threads.proofs.Splitting.{turnstiles-set}
 use Rattle.silo_threads.proofs.callers.caller.Caller.call.Goals as goal
 
 pub returns-in_err-answer-clause-turnstiles : goal.returns-in_err-answer-clause-turnstiles
 returns-in_err-answer-clause-turnstiles g c =
-    turnstiles-called _ _ _ _ _ c.ask_at.ensures.calls ∙ ap (λ (ps : List QueuePass). turnstiles ps) c.self.view_is
+    let one = c.ask_at.ensures.calls in
+    turnstiles-set _ _ _ _ _ one.had one.whole one.calls.calls.only ∙ ap (λ (ps : List QueuePass). turnstiles ps) c.self.view_is
 
 pub reply-requires : goal.reply-requires
 reply-requires g c =
@@ -17,4 +17,5 @@ reply-requires g c =
 
 pub returns-clause-turnstiles : goal.returns-clause-turnstiles
 returns-clause-turnstiles g c =
-    turnstiles-called _ _ _ _ _ c.ask_at.ensures.calls ∙ ap (λ (ps : List QueuePass). turnstiles ps) c.self.view_is
+    let one = c.ask_at.ensures.calls in
+    turnstiles-set _ _ _ _ _ one.had one.whole one.calls.calls.only ∙ ap (λ (ps : List QueuePass). turnstiles ps) c.self.view_is

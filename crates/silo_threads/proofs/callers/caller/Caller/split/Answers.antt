@@ -1,4 +1,4 @@
-use Rattle.std.proofs.lemmas.Result.{err_from_is_err_and}
+use Rattle.silo_threads.proofs.Prelude.{err_from_is_err_and}
 use Rattle.silo_threads.proofs.Splitting.{none-back, takes-back}
 use Rattle.silo_threads.proofs.callers.caller.Caller.split.Goals as goal
 

@@ -1,5 +1,4 @@
-use Rattle.std.proofs.Common.{subst}
-use Rattle.silo_loops.specs.Lines.{QueuePass}
+use Rattle.silo_threads.proofs.Prelude.{QueuePass, subst}
 use Rattle.silo_threads.specs.Calls.{QueueCalls}
 use Rattle.silo_threads.proofs.callers.queue_caller.QueueCaller.ask.Goals as goal
 

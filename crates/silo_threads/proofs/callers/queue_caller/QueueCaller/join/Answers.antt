@@ -1,6 +1,4 @@
-use Rattle.std.proofs.Common.{subst}
-use Rattle.turnstile.specs.Calls.{Agree}
-use Rattle.silo_loops.specs.Lines.{QueuePass}
+use Rattle.silo_threads.proofs.Prelude.{QueuePass, subst, Agree}
 use Rattle.silo_threads.proofs.callers.queue_caller.QueueCaller.join.Goals as goal
 
 pub returns-clause-agree : goal.returns-clause-agree

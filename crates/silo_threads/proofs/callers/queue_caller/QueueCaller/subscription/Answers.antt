@@ -1,5 +1,4 @@
-use Rattle.std.proofs.Common.{◌≡◌, subst}
-use Rattle.silo_loops.specs.Lines.{QueuePass}
+use Rattle.silo_threads.proofs.Prelude.{QueuePass, ◌≡◌, subst}
 use Rattle.step_core.specs.Figures.{subscription_figures_of}
 use Rattle.silo_threads.specs.Calls.{QueueLooks}
 use Rattle.silo_threads.proofs.callers.queue_caller.QueueCaller.subscription.Goals as goal

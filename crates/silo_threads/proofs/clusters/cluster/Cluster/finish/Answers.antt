@@ -1,8 +1,5 @@
-use Rattle.std.proofs.Common.{List, Ok, ap, subst, sym}
-use Rattle.std.specs.List.{AllZip}
+use Rattle.silo_threads.proofs.Prelude.{LineView, GoOn, GoesOn, HasRun, List, Ok, ap, subst, sym, AllZip}
 use Rattle.turnstile.specs.Recorded.{recorded}
-use Rattle.silo_loops.specs.Lines.{LineView}
-use Rattle.silo_loops.specs.Silos.{GoOn, GoesOn, HasRun}
 use Rattle.silo_threads.specs.Clusters.{AreFresh, ClusterView, HaveEnded}
 use Rattle.silo_threads.proofs.Standing.{callers-on, finished-whole}
 use Rattle.silo_threads.proofs.clusters.cluster.Cluster.finish.Goals as goal

@@ -1,7 +1,4 @@
-use Rattle.std.proofs.Common.{List, ap, subst, sym, ◌≡◌}
-use Rattle.std.specs.List.{AllByRecursion}
-use Rattle.silo_loops.specs.Lines.{LineView}
-use Rattle.silo_loops.specs.Silos.{GoOn, GoesOn}
+use Rattle.silo_threads.proofs.Prelude.{LineView, GoOn, GoesOn, List, ap, subst, sym, ◌≡◌, AllByRecursion}
 use Rattle.silo_threads.specs.Clusters.{ClusterView, HaveComeBack, RunsOn, all_noted}
 use Rattle.silo_threads.proofs.Standing.{callers-on, finished-whole}
 use Rattle.silo_threads.proofs.clusters.cluster.Cluster.finish_parked.Goals as goal

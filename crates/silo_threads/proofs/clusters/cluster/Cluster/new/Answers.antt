@@ -1,4 +1,4 @@
-use Rattle.std.proofs.Common.{◌≡◌, false, refl, subst, sym, true, ◌∙◌}
+use Rattle.silo_threads.proofs.Prelude.{◌≡◌, false, refl, subst, sym, true, ◌∙◌}
 use Rattle.silo_threads.specs.Operators.{OperatorView}
 use Rattle.silo_threads.specs.Clusters.{IsOpened}
 use Rattle.silo_threads.proofs.Standing.{ends-none}

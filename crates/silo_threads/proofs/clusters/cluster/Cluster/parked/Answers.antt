@@ -1,5 +1,4 @@
-use Rattle.std.proofs.Common.{◌≡◌, List, false, refl, subst, sym, true, ◌∙◌}
-use Rattle.silo_loops.specs.Silos.{SiloView}
+use Rattle.silo_threads.proofs.Prelude.{SiloView, ◌≡◌, List, false, refl, subst, sym, true, ◌∙◌}
 use Rattle.silo_threads.specs.Operators.{OperatorView}
 use Rattle.silo_threads.specs.Clusters.{AreFresh, IsOpened, RunsOn}
 use Rattle.silo_threads.proofs.Standing.{ends-none}

@@ -1,8 +1,6 @@
-use Rattle.std.proofs.Common.{Some, ℕ, arith, ap, length, refl, subst, sym, true, ◌∙◌, ◌≡◌}
-use Rattle.std.proofs.lemmas.Option.{slice_get_within}
-use Rattle.silo_loops.specs.Silos.{IsSiloAt, SiloView}
+use Rattle.silo_threads.proofs.Prelude.{IsSiloAt, SiloView, Some, arith, ap, length, refl, subst, sym, true, ◌∙◌, slice_get_within}
 use Rattle.silo_threads.specs.Clusters.{AnswersRetire, ClusterView, IsRetired}
-use Rattle.silo_threads.proofs.Standing.{halted-retire, last-stays, may-go, parked-stays, retire-done}
+use Rattle.silo_threads.proofs.Standing.{halted-retire, last-stays, may-go, parked-stays}
 use Rattle.silo_threads.proofs.clusters.cluster.Cluster.retire.Goals as goal
 
 pub leave-requires-clause-place : goal.leave-requires-clause-place
@@ -38,16 +36,21 @@ pub returns-in-Ok : goal.returns-in-Ok
 returns-in-Ok g c =
     let v : ClusterView = record { operator = c.self.inside.operator; silos = c.self.inside.silos.items; ends = c.self.inside.ends; is_parked = c.self.inside.parked; is_halted = c.self.inside.halted; rounds = c.self.inside.rounds; looks = c.self.inside.looks } in
     let w : ClusterView = record { operator = c.leave.new.operator; silos = c.self.inside.silos.items; ends = c.note_ends-self-inside.result; is_parked = c.self.inside.parked; is_halted = c.self.inside.halted; rounds = c.self.inside.rounds; looks = c.self.inside.looks } in
-    let named : c.loops.inside.silo ≡ c.args.loops.silo = ap (λ (s : SiloView). s.silo) c.loops.view_is in
-    subst (λ (u : ClusterView). IsRetired u c.args.loops w) c.self.view_is
-    (retire-done v w c.args.loops c.in-Some.place c.loops.inside.silo c.args.loops.silo c.if-self.false (λ one. c.if-live_count-eq1.false (c.live_count.ensures ∙ one)) c.in-Some.ensures named refl c.leave.ensures.on c.in-Ok.ensures.left (refl, refl, refl) c.if-self.false
-    (c.note_ends-self-inside.ensures.noted, record { taken = c.leave.ensures.taken; causes = c.note_ends-self-inside.ensures.causes }) c.in-Ok.ensures.emptied)
+    let here = c.in-Some.ensures ∙ ap (λ (s : SiloView). Some s.silo) c.loops.view_is in
+    let may = may-go v c.in-Some.place c.args.loops.silo here (λ one. c.if-live_count-eq1.false (c.live_count.ensures ∙ one)) in
+    subst (λ (u : ClusterView). IsRetired u c.args.loops w) c.self.view_is (
+      c.if-self.false,
+      may,
+      record { on = c.leave.ensures.on; place = c.in-Some.place; stood = here; left = c.in-Ok.ensures.left; same = (refl, refl, refl); goes_on = c.if-self.false },
+      (c.note_ends-self-inside.ensures.noted, record { taken = c.leave.ensures.taken; causes = c.note_ends-self-inside.ensures.causes }),
+      c.in-Ok.ensures.emptied,
+    )
 
 pub returns-in-Err : goal.returns-in-Err
 returns-in-Err g c =
     let v : ClusterView = record { operator = c.self.inside.operator; silos = c.self.inside.silos.items; ends = c.self.inside.ends; is_parked = c.self.inside.parked; is_halted = c.self.inside.halted; rounds = c.self.inside.rounds; looks = c.self.inside.looks } in
     let w : ClusterView = record { operator = c.leave.new.operator; silos = c.self.inside.silos.items; ends = c.note_ends-self-inside.result; is_parked = c.self.inside.parked; is_halted = true; rounds = c.self.inside.rounds; looks = c.self.inside.looks } in
-    let named : c.loops.inside.silo ≡ c.args.loops.silo = ap (λ (s : SiloView). s.silo) c.loops.view_is in
-    let may = may-go v c.in-Some.place c.args.loops.silo (c.in-Some.ensures ∙ ap (λ (k : ℕ). Some k) named) (λ one. c.if-live_count-eq1.false (c.live_count.ensures ∙ one)) in
+    let here = c.in-Some.ensures ∙ ap (λ (s : SiloView). Some s.silo) c.loops.view_is in
+    let may = may-go v c.in-Some.place c.args.loops.silo here (λ one. c.if-live_count-eq1.false (c.live_count.ensures ∙ one)) in
     subst (λ (u : ClusterView). AnswersRetire u c.args.loops c.retired_by.result w) c.self.view_is
     (halted-retire v w c.args.loops c.in-Err.halt c.retired_by.result c.retired_by.ensures (c.if-self.false, may, record { on = c.leave.ensures.on; assignment = c.in-Err.ensures.kept; same = (refl, refl, refl); halted = refl }, (c.note_ends-self-inside.ensures.noted, record { taken = c.leave.ensures.taken; causes = c.note_ends-self-inside.ensures.causes })) c.in-Err.ensures.limit)

@@ -1,8 +1,7 @@
-use Rattle.std.proofs.Common.{Ok, refl, subst, true}
-use Rattle.silo_loops.specs.Silos.{IsFresh}
+use Rattle.silo_threads.proofs.Prelude.{IsFresh, Ok, refl, subst, true}
 use Rattle.silo_threads.specs.Clusters.{AnswersUp, ClusterView}
 use Rattle.silo_threads.specs.declared.clusters.cluster.SiloUp.TheVariants as up
-use Rattle.silo_threads.proofs.Standing.{cluster-came, halted-up, not-fixed, up-done}
+use Rattle.silo_threads.proofs.Standing.{cluster-came, halted-up, not-fixed}
 use Rattle.silo_threads.proofs.clusters.cluster.Cluster.silo_up.Goals as goal
 
 pub invariant_of-self : goal.invariant_of-self
@@ -16,10 +15,11 @@ pub returns-in-Ok : goal.returns-in-Ok
 returns-in-Ok g c =
     let v : ClusterView = record { operator = c.self.inside.operator; silos = c.self.inside.silos.items; ends = c.self.inside.ends; is_parked = c.self.inside.parked; is_halted = c.self.inside.halted; rounds = c.self.inside.rounds; looks = c.self.inside.looks } in
     let w : ClusterView = record { operator = c.bring_up.new.operator; silos = c.bring_up.new.silos.items; ends = c.self.inside.ends; is_parked = c.self.inside.parked; is_halted = c.self.inside.halted; rounds = c.self.inside.rounds; looks = c.self.inside.looks } in
-    let started = c.in-Ok.ensures.started in
-    let fresh : IsFresh c.self.inside.rounds c.args.silo started.0 = started.2 in
-    subst (λ (u : ClusterView). AnswersUp u c.args.silo (Ok up.Up) w) c.self.view_is
-    (up-done v w c.args.silo started.0 (not-fixed v c.if-self.false c.if-self-2.false) c.in-None.ensures c.bring_up.ensures.on c.in-Ok.ensures.seen c.in-Ok.ensures.directory c.in-Ok.ensures.live started.1 fresh started.3 c.in-Ok.ensures.spread c.in-Ok.ensures.stayed refl (refl, refl, refl) c.if-self-2.false)
+    subst (λ (u : ClusterView). AnswersUp u c.args.silo (Ok up.Up) w) c.self.view_is (
+      not-fixed v c.if-self.false c.if-self-2.false,
+      c.in-None.ensures,
+      record { on = c.bring_up.ensures.on; seen = c.in-Ok.ensures.seen; directory = c.in-Ok.ensures.directory; live = c.in-Ok.ensures.live; started = c.in-Ok.ensures.started; spread = c.in-Ok.ensures.spread; stayed = c.in-Ok.ensures.stayed; ends = refl; same = (refl, refl, refl); goes_on = c.if-self-2.false },
+    )
 
 pub returns-in-Err : goal.returns-in-Err
 returns-in-Err g c =

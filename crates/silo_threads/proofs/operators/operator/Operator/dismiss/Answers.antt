@@ -1,6 +1,5 @@
-use Rattle.std.proofs.Common.{◌≢◌, ◌<◌, List, length, subst, sym, ℕ}
+use Rattle.silo_threads.proofs.Prelude.{HasNoDoubles, ◌≢◌, ◌<◌, List, length, subst, sym, ℕ}
 use Rattle.std.proofs.lemmas.List.Quantifiers.{all_pairs_remove}
-use Rattle.queue_balancer.specs.Balance.{HasNoDoubles}
 use Rattle.silo_threads.specs.Operators.{OperatorView}
 use Rattle.silo_threads.proofs.operators.operator.Operator.dismiss.Goals as goal
 

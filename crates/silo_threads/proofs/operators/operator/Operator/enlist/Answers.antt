@@ -1,5 +1,4 @@
-use Rattle.std.proofs.Common.{Contains, List, subst, sym, ℕ}
-use Rattle.queue_balancer.specs.Balance.{HasNoDoubles}
+use Rattle.silo_threads.proofs.Prelude.{HasNoDoubles, Contains, List, subst, sym, ℕ}
 use Rattle.silo_threads.specs.Operators.{OperatorView}
 use Rattle.silo_threads.proofs.Spreading.{one-more}
 use Rattle.silo_threads.proofs.operators.operator.Operator.enlist.Goals as goal

@@ -1,5 +1,4 @@
-use Rattle.std.proofs.Common.{◌∙◌, IfErr, OnOk, subst, sym}
-use Rattle.silo_loops.proofs.Going.{goes-length, goes-some}
+use Rattle.silo_threads.proofs.Prelude.{goes-length, goes-some, ◌∙◌, IfErr, OnOk, subst, sym}
 use Rattle.silo_threads.specs.declared.operators.halt.Halt.{Halt}
 use Rattle.silo_threads.specs.Changes.{AreDeactivated, HaveMovedNowhere, HoldsGrains}
 use Rattle.silo_threads.specs.Operators.{OperatorView}

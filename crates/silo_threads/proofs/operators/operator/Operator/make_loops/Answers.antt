@@ -1,8 +1,5 @@
-use Rattle.std.proofs.Common.{◌≡◌, ◌∙◌, IfOk, OnOk, subst, sym}
-use Rattle.std.proofs.lemmas.Result.{on_ok_weaker}
-use Rattle.silo_loops.specs.Silos.{AreSplitOff}
+use Rattle.silo_threads.proofs.Prelude.{goes-length, goes-some, silent-refl, AreSplitOff, ◌≡◌, ◌∙◌, IfOk, OnOk, subst, sym, on_ok_weaker}
 use Rattle.silo_threads.specs.Operators.{OperatorView}
-use Rattle.silo_loops.proofs.Going.{goes-length, goes-some, silent-refl}
 use Rattle.silo_threads.proofs.Spreading.{only-refl, same-passes}
 use Rattle.silo_threads.proofs.operators.operator.Operator.make_loops.Goals as goal
 

@@ -1,5 +1,4 @@
-use Rattle.std.proofs.Common.{IfErr, List, subst, ℕ}
-use Rattle.silo_loops.proofs.Going.{goes-some}
+use Rattle.silo_threads.proofs.Prelude.{goes-some, IfErr, List, subst, ℕ}
 use Rattle.silo_threads.specs.declared.operators.halt.Halt.{Halt}
 use Rattle.silo_threads.specs.Operators.{IsUnspread, OperatorView}
 use Rattle.silo_threads.proofs.operators.operator.Operator.spread.Goals as goal

@@ -1,5 +1,4 @@
-use Rattle.std.proofs.Common.{◌∙◌, sym}
-use Rattle.silo_loops.proofs.Going.{goes-length, goes-some}
+use Rattle.silo_threads.proofs.Prelude.{goes-length, goes-some, ◌∙◌, sym}
 use Rattle.silo_threads.proofs.operators.operator.Operator.take_back.Goals as goal
 
 pub invariant_of-self : goal.invariant_of-self

@@ -1,8 +1,6 @@
-use Rattle.std.proofs.Common.{◌≡◌, vec_capacity, vec_len}
-use Rattle.std.specs.List.{AllByRecursion}
-use Rattle.silo_loops.specs.Lines.{NeverProduces}
+use Rattle.silo_threads.proofs.Prelude.{NeverProduces, ◌≡◌, vec_capacity, vec_len, AllByRecursion}
 use Rattle.silo_threads.specs.Gathering.{passes_of}
-use Rattle.silo_threads.proofs.ending.gathering.line_callers.Given as goal
+use Rattle.silo_threads.proofs.callers.caller.Caller.of_lines.Given as goal
 
 abbrev pub invariant-loop-line : goal.invariant-loop-line
 invariant-loop-line g l =

@@ -1,13 +1,6 @@
-use Rattle.std.proofs.Common.{◌≡◌, ◌<◌, ◌∷◌, [], ◌++◌, ◌∙◌, List, ap, arith, length, rules, subst, sym}
-use Rattle.std.proofs.lemmas.Grind.{common_steps}
-use Rattle.std.proofs.lemmas.Iterator.Adapters.{YieldsList-from_vec}
-use Rattle.std.proofs.lemmas.Iterator.Consumers.{YieldsList-end, YieldsList-turn}
-use Rattle.std.proofs.lemmas.List.{length-map, map-append, map-id}
-use Rattle.std.specs.List.{AllByRecursion}
-use Rattle.stream_ident.proofs.EachOf.{All-push}
-use Rattle.silo_loops.specs.Lines.{LineView, NeverProduces, QueuePass}
+use Rattle.silo_threads.proofs.Prelude.{LineView, NeverProduces, QueuePass, ◌≡◌, ◌<◌, ◌∷◌, [], ◌++◌, ◌∙◌, List, ap, arith, length, rules, subst, sym, common_steps, YieldsList-from_vec, YieldsList-end, YieldsList-turn, length-map, map-append, map-id, AllByRecursion, All-push}
 use Rattle.silo_threads.specs.Gathering.{passes_of}
-use Rattle.silo_threads.proofs.ending.gathering.line_callers.Goals as goal
+use Rattle.silo_threads.proofs.callers.caller.Caller.of_lines.Goals as goal
 
 pub push_reserved-requires : goal.push_reserved-requires
 push_reserved-requires g c =
@@ -36,4 +29,7 @@ returns-clause-passes g c =
     let gives = c.into_iter-line-iterator.ensures.into_iter_gives in
     let ending = YieldsList-end (YieldsList-from_vec {s = c.into_iter-line-iterator.result} c.args.lines.items gives.0 (first_of (search rules, grind (arith, common_steps)))) c.loop-line.yielded c.loop-line.line-iterator c.loop-line.yielded_by c.next.result c.next.new.self c.in-None.is c.next.ensures.steps in
     let whole = sym (map-id c.loop-line.yielded) ∙ ending.0 in
-    c.loop-line.invariant.passes ∙ ap (λ (ls : List LineView). passes_of ls) whole
+    c.new-2.ensures ∙ c.loop-line.invariant.passes ∙ ap (λ (ls : List LineView). passes_of ls) whole
+
+pub returns-clause-never : goal.returns-clause-never
+returns-clause-never g c = subst (λ (ps : List QueuePass). AllByRecursion NeverProduces ps) (sym c.new-2.ensures) c.loop-line.invariant.never
