@@ -1,9 +1,8 @@
 -- The line of an operation is read as its command.
+use Rattle.script_runs.proofs.Prelude.{Op, MayStand, Reads}
 use Rattle.std.specs.Prelude.{ℕ}
-use Rattle.stream_model.specs.declared.op.Op.{Op}
 use Rattle.stream_model.specs.declared.op.Op.TheVariants as op
 use Rattle.stream_script.specs.declared.parser.command.Mode.TheVariants as mode
-use Rattle.stream_script.specs.Grammar.{MayStand, Reads}
 use Rattle.stream_script.proofs.AgainLemmas.{reading-again}
 use Rattle.script_runs.specs.OpLine.{op_pieces, op_line, op_command, HasCommand, ReadsAgain}
 use Rattle.script_runs.proofs.Joining.{line_of-joined}
@@ -11,22 +10,8 @@ use Rattle.script_runs.proofs.OpPieces.{own_pieces}
 
 -- each operation's command may stand in a script that is simulated
 may_stand : (queue : ℕ) (o : Op) → MayStand mode.Sim (op_command queue o)
-may_stand queue (op.Publish stream payloads) = tt
-may_stand queue (op.Subscribe stream grain at_) = tt
-may_stand queue (op.Unsubscribe sub) = tt
 may_stand queue (op.AddRule own_kind namespace) = tt
-may_stand queue (op.Pull generation most) = tt
-may_stand queue (op.Deliver generation sub) = tt
-may_stand queue (op.Retry generation sub) = tt
-may_stand queue (op.Ack generation sub token) = tt
-may_stand queue (op.Purge generation keep) = tt
-may_stand queue (op.Begin grain most) = tt
-may_stand queue (op.Commit grain activation turn note) = tt
-may_stand queue (op.Deactivate grain) = tt
-may_stand queue (op.Move silo) = tt
-may_stand queue (op.Ready after) = tt
-may_stand queue (op.Due after) = tt
-may_stand queue op.Quiet = tt
+may_stand queue o = tt
 
 own_line : (queues queue : ℕ) (o : Op) → HasCommand queues queue o → Reads mode.Sim queues (op_line queue o) (op_command queue o)
 own_line queues queue o has =

@@ -1,32 +1,16 @@
 -- A line that asks at one queue or at each.
-use Rattle.std.proofs.Common.{◌≡◌, ◌≢◌, ◌⊎◌, ℕ, zero, suc, ◌+◌, ◌<◌, ◌≤◌, inl, inr, true, if◌then◌else◌, List, [], ◌∷◌, ◌++◌, length, Some, None, Result, Ok, Err, IfOk, refl, sym, ap, subst, ◌∙◌, arith}
-use Rattle.std.proofs.lemmas.Bool.{eq-eqb}
+use Rattle.script_runs.proofs.Prelude.{QueuePass, called-on, gone-refl, all-at, zip-at, zip-refl, CallerCalls, QueueCalls, HasGoneOn, ◌≡◌, ◌≢◌, ◌⊎◌, ℕ, zero, suc, ◌+◌, ◌<◌, ◌≤◌, inl, inr, true, if◌then◌else◌, List, [], ◌∷◌, ◌++◌, length, Some, None, Result, Ok, Err, IfOk, refl, sym, ap, subst, ◌∙◌, add-one, arith, eq-eqb, AllByRecursion, AllZip, slice_get, slice_set, AllocError, is_producer, Reply, Op, op_of, EachOp, Refusal, HistoryFull, Memory}
 use Rattle.std.proofs.lemmas.Bool.Decides.{eqb_tells}
-use Rattle.std.specs.List.{AllByRecursion, AllZip}
-use Rattle.std.specs.Prelude.{slice_get}
 use Rattle.std.specs.Result.{IsErrAnd}
-use Rattle.std.specs.declared.alloc.AllocError.{AllocError}
-use Rattle.stream_model.specs.declared.op.Op.{Op}
-use Rattle.stream_model.specs.Replies.{Reply}
-use Rattle.stream_model.specs.Producers.{is_producer}
-use Rattle.turnstile.specs.declared.turnstile.Refusal.{Refusal}
-use Rattle.turnstile.specs.declared.turnstile.Refusal.TheVariants.{HistoryFull, Memory}
-use Rattle.silo_loops.specs.Lines.{QueuePass}
-use Rattle.silo_threads.specs.Calls.{CallerCalls, QueueCalls}
-use Rattle.silo_threads.specs.Draining.{HasGoneOn}
-use Rattle.silo_threads.proofs.Rows.{all-at, zip-refl}
 use Rattle.stream_script.specs.declared.parser.command.Command.TheVariants as command
-use Rattle.stream_script.specs.declared.parser.command.EachOp.{EachOp}
 use Rattle.stream_script.specs.declared.parser.command.EachOp.TheVariants as each
-use Rattle.stream_script.specs.Forms.{op_of}
 use Rattle.script_runs.specs.declared.reader.line.Line.{Line}
 use Rattle.script_runs.specs.ScriptReport.{op_printed}
 use Rattle.script_runs.specs.Told as script
 use Rattle.script_runs.specs.declared.producer.answer.Answer.{Answer}
 use Rattle.script_runs.specs.declared.producer.answer.Answer.TheVariants as answer
-use Rattle.silo_threads.proofs.GoneOn.{called-on, gone-refl}
 use Rattle.script_runs.specs.Telling.{AloneProduces, AreAskedBefore, AsksEachOnce, AsksLast, AsksOnce, AsksUpTo, BeginsEmpty, EndsAsking, HasTold, IsAnswered, IsAsked, IsNewNumber, ProducesAlone, Tells, TellsUnlessLimit, answer_of, printed_lines, told_at, with_missed}
-use Rattle.script_runs.proofs.Placing.{UpTo, set-at, set-here, upto-at, upto-first, upto-next, zip-set}
+use Rattle.script_runs.proofs.Placing.{set-at, set-here, zip-set}
 use Rattle.script_runs.proofs.Replying.{IsToldAlike, line-none, line-printed, line-told}
 
 -- ---- one call
@@ -53,12 +37,12 @@ once-replied old queue op a new once free = replied-so old queue op once.outcome
 -- ---- a line at one queue
 
 -- what it asks for there, and at the others
-op-here : (queue : ℕ) (op : Op) → is_producer op ≡ true → script.op_at queue (command.Step queue op) ≡ Some op
+pub op-here : (queue : ℕ) (op : Op) → is_producer op ≡ true → script.op_at queue (command.Step queue op) ≡ Some op
 op-here queue op produces =
     ap (λ b. if b then script.producer_op op else None) (eq-eqb queue queue refl)
     ∙ ap (λ b. if b then Some op else None) produces
 
-op-there : (queue other : ℕ) (op : Op) → (other ≢ queue) → script.op_at other (command.Step queue op) ≡ None
+pub op-there : (queue other : ℕ) (op : Op) → (other ≢ queue) → script.op_at other (command.Step queue op) ≡ None
 op-there queue other op differs =
     elim (eqb_tells queue other) as (λ s. script.op_at other (command.Step queue op) ≡ None) [
       | inl same ↦ absurd (differs (sym same.1))
@@ -100,25 +84,7 @@ once-tells old queue op (Ok a) new produces once = λ free.
 
 -- ---- a line at each queue
 
--- one call was made at the queue, and answered; at the first one so
-pub record IsAskedAs (first : Answer) (op : Op) (queue : ℕ) (p q : QueuePass) : Type 0 where
-  pub asked : IsAsked op p q
-  pub first_is : queue ≡ 0 → first ≡ answer_of asked.reply
-
--- one call was made at each queue below this one
-abbrev pub AskedUpTo : Answer → Op → ℕ → List QueuePass → List QueuePass → Type 0
-AskedUpTo first op queue old now = UpTo (IsAskedAs first op) queue old now
-
 module _ (op : Op) where
-  asked-before : (R : ℕ → QueuePass → QueuePass → Type 0) → ((k : ℕ) (p q : QueuePass) → R k p q → IsAsked op p q) → (n : ℕ) (old now : List QueuePass) → UpTo R n old now → AreAskedBefore n op old now
-  asked-before R is zero old now front = front
-  asked-before R is (suc n) [] now front = absurd front
-  asked-before R is (suc n) (p ∷ old) [] front = absurd front
-  asked-before R is (suc n) (p ∷ old) (q ∷ now) front = (is 0 p q front.0, asked-before (λ k. R (suc k)) (λ k. is (suc k)) n old now front.1)
-
-  pub front-before : (first : Answer) (queue : ℕ) (old now : List QueuePass) → AskedUpTo first op queue old now → AreAskedBefore queue op old now
-  front-before first queue old now front = asked-before (IsAskedAs first op) (λ k p q is. is.asked) queue old now front
-
   asked-all : (n : ℕ) (old now : List QueuePass) → length old ≤ n → AreAskedBefore n op old now → AllZip (IsAsked op) old now
   asked-all zero [] now long same = subst (λ (es : List QueuePass). AllZip (IsAsked op) [] es) (sym same) tt
   asked-all zero (p ∷ old) now long same = absurd (omega arith)
@@ -149,21 +115,69 @@ module _ (op : Op) where
   upto-last : (result : Result Answer AllocError) (old new : List QueuePass) → is_producer op ≡ true → AsksUpTo old op result new → AsksLast old op result new
   upto-last result old new produces asks = record { before = asks.before; on = before-on produces asks.queue old asks.before asks.front; queue = asks.queue; asks = asks.last }
 
-one-more : (first a : Answer) (op : Op) (queue : ℕ) (old now new : List QueuePass) → AskedUpTo first op queue old now → AsksOnce now queue op (Ok a) new → a ≢ answer.Limit → (queue ≡ 0 → first ≡ a) → AskedUpTo first op (queue + 1) old new
-one-more first a op queue old now new front once free same =
-    let replies = once-replied now queue op a new once free in
-    let calls = replies.1 in
-    upto-next (IsAskedAs first op) queue old now new calls.was calls.is front calls.had calls.whole
-    (record { asked = record { reply = replies.0; calls = calls.calls; free = λ limit. free (replies.2 ∙ limit) }; first_is = λ zeroth. same zeroth ∙ replies.2 })
+  -- one queue more was asked
+  before-set : (n : ℕ) (old now : List QueuePass) (p q : QueuePass) → AreAskedBefore n op old now → slice_get now n ≡ Some p → IsAsked op p q → AreAskedBefore (suc n) op old (slice_set now n q)
+  before-set zero [] now p q same had asked =
+      let none : slice_get [] 0 ≡ Some p = ap (λ (es : List QueuePass). slice_get es 0) (sym same) ∙ had in
+      absurd (cc)
+  before-set zero (z ∷ old) now p q same had asked =
+      let some : Some z ≡ Some p = ap (λ (es : List QueuePass). slice_get es 0) (sym same) ∙ had in
+      let is : p ≡ z = cc in
+      subst (λ (es : List QueuePass). AreAskedBefore 1 op (z ∷ old) (slice_set es 0 q)) (sym same) (subst (λ (e : QueuePass). IsAsked op e q) is asked, refl)
+  before-set (suc n) [] now p q front had asked = absurd front
+  before-set (suc n) (z ∷ old) [] p q front had asked = absurd front
+  before-set (suc n) (z ∷ old) (w ∷ now) p q front had asked = (front.0, before-set n old now p q front.1 had asked)
 
-pub each-first : (first : Answer) (asked op : Op) (old new : List QueuePass) → op ≡ asked → AsksOnce old 0 op (Ok first) new → first ≢ answer.Limit → AskedUpTo first asked 1 old new
+  before-next : (n : ℕ) (old now new : List QueuePass) (p q : QueuePass) → AreAskedBefore n op old now → slice_get now n ≡ Some p → new ≡ slice_set now n q → IsAsked op p q → AreAskedBefore (n + 1) op old new
+  before-next n old now new p q front had put asked =
+      subst (λ (es : List QueuePass). AreAskedBefore (n + 1) op old es) (sym put) (subst (λ m. AreAskedBefore m op old (slice_set now n q)) (sym (add-one n)) (before-set n old now p q front had asked))
+
+  -- the call was answered, and met no limit
+  abbrev asked-one : (a : Answer) (queue : ℕ) (now new : List QueuePass) → a ≢ answer.Limit → (replies : Replies now queue op a new) → IsAsked op replies.1.was replies.1.is
+  asked-one a queue now new free replies = record { reply = replies.0; calls = replies.1.calls; free = λ limit. free (replies.2 ∙ limit) }
+
+-- the first queue was asked, and its reply answers so
+abbrev pub IsFirstAnswer : Answer → Op → List QueuePass → List QueuePass → Type 0
+IsFirstAnswer first op [] now = ⊥
+IsFirstAnswer first op (p ∷ old) [] = ⊥
+IsFirstAnswer first op (p ∷ old) (q ∷ now) = (asked : IsAsked op p q) × (first ≡ answer_of asked.reply)
+
+-- so far each queue before this one was asked, and the first one answered so
+pub record AsksSoFar (first : Answer) (op : Op) (queue : ℕ) (old now : List QueuePass) : Type 0 where
+  pub asked : AreAskedBefore queue op old now
+  pub first_is : IsFirstAnswer first op old now
+
+first-made : (first : Answer) (op : Op) (old : List QueuePass) (p q : QueuePass) → slice_get old 0 ≡ Some p → (asked : IsAsked op p q) → first ≡ answer_of asked.reply → IsFirstAnswer first op old (slice_set old 0 q)
+first-made first op [] p q had asked is = absurd (cc)
+first-made first op (z ∷ old) p q had asked is =
+    let same : p ≡ z = cc in
+    subst (λ (e : QueuePass). (one : IsAsked op e q) × (first ≡ answer_of one.reply)) same (asked, is)
+
+first-kept : (first : Answer) (op : Op) (queue : ℕ) (old now : List QueuePass) (q : QueuePass) → 1 ≤ queue → IsFirstAnswer first op old now → IsFirstAnswer first op old (slice_set now queue q)
+first-kept first op zero old now q some is = absurd (omega (arith, some))
+first-kept first op (suc n) [] now q some is = absurd is
+first-kept first op (suc n) (p ∷ old) [] q some is = absurd is
+first-kept first op (suc n) (p ∷ old) (r ∷ now) q some is = is
+
+pub each-first : (first : Answer) (asked op : Op) (old new : List QueuePass) → op ≡ asked → AsksOnce old 0 op (Ok first) new → first ≢ answer.Limit → AsksSoFar first asked 1 old new
 each-first first asked op old new is once free =
-    one-more first first asked 0 old old new refl (subst (λ (o : Op). AsksOnce old 0 o (Ok first) new) is once) free (λ zeroth. refl)
+    let replies = once-replied old 0 asked first new (subst (λ (o : Op). AsksOnce old 0 o (Ok first) new) is once) free in
+    let calls = replies.1 in
+    let one = asked-one asked first 0 old new free replies in
+    record {
+      asked = before-next asked 0 old old new calls.was calls.is refl calls.had calls.whole one;
+      first_is = subst (λ (es : List QueuePass). IsFirstAnswer first asked old es) (sym calls.whole) (first-made first asked old calls.was calls.is calls.had one replies.2);
+    }
 
-pub each-next : (first a : Answer) (asked op : Op) (queue : ℕ) (old now new : List QueuePass) → op ≡ asked → AskedUpTo first asked queue old now → AsksOnce now queue op (Ok a) new → a ≢ answer.Limit → 1 ≤ queue
-    → AskedUpTo first asked (queue + 1) old new
-each-next first a asked op queue old now new is front once free some =
-    one-more first a asked queue old now new front (subst (λ (o : Op). AsksOnce now queue o (Ok a) new) is once) free (λ zeroth. absurd (omega arith))
+pub each-next : (first a : Answer) (asked op : Op) (queue : ℕ) (old now new : List QueuePass) → op ≡ asked → AsksSoFar first asked queue old now → AsksOnce now queue op (Ok a) new → a ≢ answer.Limit → 1 ≤ queue
+    → AsksSoFar first asked (queue + 1) old new
+each-next first a asked op queue old now new is far once free some =
+    let replies = once-replied now queue asked a new (subst (λ (o : Op). AsksOnce now queue o (Ok a) new) is once) free in
+    let calls = replies.1 in
+    record {
+      asked = before-next asked queue old now new calls.was calls.is far.asked calls.had calls.whole (asked-one asked a queue now new free replies);
+      first_is = subst (λ (es : List QueuePass). IsFirstAnswer first asked old es) (sym calls.whole) (first-kept first asked queue old now calls.is some far.first_is);
+    }
 
 -- one of these calls
 pub each-on : (asked op : Op) (queue : ℕ) (result : Result Answer AllocError) (old new : List QueuePass) → op ≡ asked → is_producer asked ≡ true → AsksOnce old queue op result new → AllZip HasGoneOn old new
@@ -189,38 +203,38 @@ once-refused asked op (Err y) e queue old now new is front err once =
 -- calls that have met no limit
 each-free : (op : Op) (a : Answer) (old new : List QueuePass) → a ≢ answer.Limit → AllZip (IsAsked op) old new → AsksEachOnce old op (Ok a) new
 each-free op answer.Limit old new free all = absurd (free refl)
-each-free op answer.Taken old new free all = all
-each-free op answer.Refused old new free all = all
-each-free op answer.Missed old new free all = all
+each-free op a old new free all = all
 
 -- so the calls end at once where one meets a limit or fails to allocate
 pub once-ends : (op : Op) (result : Result Answer AllocError) (old new : List QueuePass) → is_producer op ≡ true → AsksEachOnce old op result new → EndsAsking old op result new
 once-ends op (Ok answer.Limit) old new produces once = upto-last op (Ok answer.Limit) old new produces once
-once-ends op (Ok answer.Taken) old new produces once = tt
-once-ends op (Ok answer.Refused) old new produces once = tt
-once-ends op (Ok answer.Missed) old new produces once = tt
+once-ends op (Ok a) old new produces once = tt
 once-ends op (Err e) old new produces once = upto-last op (Err e) old new produces once
 
-pub once-free : (first : Answer) (op : Op) (queue : ℕ) (old new : List QueuePass) → length old ≤ queue → first ≢ answer.Limit → AskedUpTo first op queue old new → AsksEachOnce old op (Ok first) new
-once-free first op queue old new long free front = each-free op first old new free (asked-all op queue old new long (front-before op first queue old new front))
+pub once-free : (first : Answer) (op : Op) (queue : ℕ) (old new : List QueuePass) → length old ≤ queue → first ≢ answer.Limit → AreAskedBefore queue op old new → AsksEachOnce old op (Ok first) new
+once-free first op queue old new long free front = each-free op first old new free (asked-all op queue old new long front)
 
-pub each-tells : (first : Answer) (asked : EachOp) (queue : ℕ) (old new : List QueuePass) → 1 ≤ length old → length old ≤ queue → is_producer (op_of asked) ≡ true → AskedUpTo first (op_of asked) queue old new
+-- what the line prints is what the first queue says
+first-printed : (first : Answer) (op : Op) (old new : List QueuePass) (number : ℕ) (missed : List ℕ) (lines : List Line) → is_producer op ≡ true → IsFirstAnswer first op old new → AllByRecursion BeginsEmpty old → AloneProduces new
+    → IsNewNumber number missed lines → HasTold missed lines old → op_printed (with_missed first number missed) lines number 0 op ≡ printed_lines first number
+first-printed first op [] new number missed lines produces is begins alone fresh has = absurd is
+first-printed first op (p ∷ old) [] number missed lines produces is begins alone fresh has = absurd is
+first-printed first op (p ∷ old) (q ∷ new) number missed lines produces is begins alone fresh has =
+    let one = is.0 in
+    subst (λ (a : Answer). op_printed (with_missed a number missed) lines number 0 op ≡ printed_lines a number) (sym is.1)
+    (line-printed p q op one.reply number missed 0 lines begins.0 alone.0 produces one.free fresh one.calls (has 0 p refl))
+
+pub each-tells : (first : Answer) (asked : EachOp) (queues : ℕ) (old new : List QueuePass) → length old ≤ queues → is_producer (op_of asked) ≡ true → AsksSoFar first (op_of asked) queues old new
     → Tells old (command.Each asked) first new
-each-tells first asked queues old new some long produces front =
+each-tells first asked queues old new long produces far =
     let op = op_of asked in
-    let R = IsAskedAs first op in
+    let all = asked-all op queues old new long far.asked in
     record {
       told = λ begins alone missed lines number fresh has queue q at.
-          let beside = upto-at R queues old new queue q long front at in
+          let beside = zip-at (IsAsked op) old new queue q all at in
           let p = beside.0 in
-          let one = beside.2.asked in
+          let one = beside.2 in
           line-told p q op one.reply first number missed queue lines (command.Each asked) (all-at BeginsEmpty old queue p begins beside.1) (all-at ProducesAlone new queue q alone at) produces one.free fresh
           (ap (λ b. if b then Some op else None) produces) (each-alike asked (answer_of one.reply) first number missed produces) one.calls (has queue p beside.1);
-      printed = λ begins alone missed lines number fresh has silos.
-          let zeroth = upto-first R queues old new some long front in
-          let p = zeroth.0 in
-          let q = zeroth.1 in
-          let one = zeroth.4.asked in
-          subst (λ (a : Answer). op_printed (with_missed a number missed) lines number 0 op ≡ printed_lines a number) (sym (zeroth.4.first_is refl))
-          (line-printed p q op one.reply number missed 0 lines (all-at BeginsEmpty old 0 p begins zeroth.2) (all-at ProducesAlone new 0 q alone zeroth.3) produces one.free fresh one.calls (has 0 p zeroth.2));
+      printed = λ begins alone missed lines number fresh has silos. first-printed first op old new number missed lines produces far.first_is begins alone fresh has;
     }

@@ -1,18 +1,9 @@
 -- Calls that found nothing leave a partition as it was, and the others are legal without them.
-use Rattle.std.proofs.Common.{◌≡◌, ◌∙◌, ℕ, Bool, true, false, not, List, [], ◌∷◌, ◌++◌, length, nat_lt, ◌==◌, refl, sym, ap, subst, if◌then◌else◌}
-use Rattle.std.specs.List.{flat_map}
-use Rattle.stream_ident.specs.declared.ident.SubName.{SubName}
-use Rattle.stream_model.specs.declared.op.Op.{Op}
+use Rattle.script_runs.proofs.Prelude.{after, replied, ◌≡◌, ◌∙◌, ℕ, Bool, true, false, not, List, [], ◌∷◌, ◌++◌, length, nat_lt, ◌==◌, refl, sym, ap, subst, if◌then◌else◌, cond_both, flat_map, SubName, is_stale, Reply, Op, PlainPartition, Subscription, IsLegal, replay, Entry}
 use Rattle.stream_model.specs.declared.op.Op.TheVariants as op
-use Rattle.stream_model.specs.declared.plain.PlainPartition.{PlainPartition}
-use Rattle.stream_model.specs.declared.plain.Subscription.{Subscription}
-use Rattle.stream_model.specs.Replies.{Reply}
 use Rattle.stream_model.specs.declared.reply.Reply.TheVariants as reply
-use Rattle.stream_model.specs.Pulling.{is_stale, pull, pull_count, pull_events, pull_want}
+use Rattle.stream_model.specs.Pulling.{pull, pull_count, pull_events, pull_want}
 use Rattle.stream_model.specs.Step.{step}
-use Rattle.turnstile.specs.declared.history.Entry.{Entry}
-use Rattle.turnstile.specs.History.{IsLegal, replay}
-use Rattle.shared_partition.specs.Partitions.{after, replied}
 use Rattle.script_runs.specs.declared.traces.trace.Calls.TheVariants as calls
 use Rattle.script_runs.specs.Traces.{BusyCallsAreLegal, busy, call_text, entry_text, found_nothing, heading, is_dry}
 
@@ -20,17 +11,13 @@ use Rattle.script_runs.specs.Traces.{BusyCallsAreLegal, busy, call_text, entry_t
 abbrev KeepsDry : PlainPartition → PlainPartition × Reply → Type 0
 KeepsDry p done = is_dry done.1 ≡ true → done.0 ≡ p
 
-either : (p : PlainPartition) (b : Bool) (x y : PlainPartition × Reply) → KeepsDry p x → KeepsDry p y → KeepsDry p (if b then x else y)
-either p true x y keeps others = keeps
-either p false x y keeps others = others
-
 events-keep : (p : PlainPartition) (low high : ℕ) (subs : List (SubName × Subscription)) → KeepsDry p (pull_events p low high subs)
 unfolding pull_events
-events-keep p low high subs = either p (nat_lt p.limits.subs (length subs)) (p, reply.TooMany) _ (λ e. refl) (λ e. cc)
+events-keep p low high subs = cond_both (nat_lt p.limits.subs (length subs)) (p, reply.TooMany) _ (KeepsDry p) (λ _ e. refl) (λ _ e. cc)
 
 count-keeps : (p : PlainPartition) (blocks count : ℕ) → KeepsDry p (pull_count p blocks count)
 unfolding pull_count
-count-keeps p blocks count = either p (count == 0) (p, _) _ (λ e. refl) (events-keep p _ _ _)
+count-keeps p blocks count = cond_both (count == 0) (p, _) _ (KeepsDry p) (λ _ e. refl) (λ _. events-keep p _ _ _)
 
 want-keeps : (p : PlainPartition) (want : ℕ) → KeepsDry p (pull_want p want)
 unfolding pull_want
@@ -38,7 +25,8 @@ want-keeps p want = count-keeps p _ _
 
 pull-keeps : (p : PlainPartition) (generation most : ℕ) → KeepsDry p (pull p generation most)
 unfolding pull
-pull-keeps p generation most = either p (is_stale p generation) (p, _) _ (λ e. refl) (either p (p.high == length p.log) (p, reply.Dry) _ (λ e. refl) (want-keeps p _))
+pull-keeps p generation most =
+    cond_both (is_stale p generation) (p, _) _ (KeepsDry p) (λ _ e. refl) (λ _. cond_both (p.high == length p.log) (p, reply.Dry) _ (KeepsDry p) (λ _ e. refl) (λ _. want-keeps p _))
 
 -- a call that found nothing has changed nothing
 keeps : (p : PlainPartition) (o : Op) → found_nothing o (replied p o) ≡ true → after p o ≡ p
@@ -47,18 +35,7 @@ keeps p (op.Pull generation most) e = pull-keeps p generation most e
 keeps p (op.Ready grain) e = refl
 keeps p (op.Due sub) e = refl
 keeps p op.Quiet e = refl
-keeps p (op.Publish stream payloads) e = cc
-keeps p (op.Subscribe stream grain start) e = cc
-keeps p (op.Unsubscribe sub) e = cc
-keeps p (op.AddRule kind namespace) e = cc
-keeps p (op.Deliver generation sub) e = cc
-keeps p (op.Retry generation sub) e = cc
-keeps p (op.Ack generation sub token) e = cc
-keeps p (op.Purge generation keep) e = cc
-keeps p (op.Begin grain most) e = cc
-keeps p (op.Commit grain activation turn note) e = cc
-keeps p (op.Deactivate grain) e = cc
-keeps p (op.Move silo) e = cc
+keeps p o e = cc
 
 -- so the calls behind it are legal where it wasn't made
 module _ (p : PlainPartition) (e : Entry Op Reply) (es : List (Entry Op Reply)) (told : e.reply ≡ replied p e.op) where

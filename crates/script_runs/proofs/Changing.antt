@@ -1,25 +1,15 @@
 -- The silos that live, by a line of a script.
-use Rattle.std.proofs.Common.{◌≡◌, ◌≢◌, ℕ, zero, suc, ◌<◌, Bool, true, false, ◌||◌, not, List, [], ◌∷◌, ◌++◌, length, Some, Result, Ok, Err, Contains, filter, remove, refl, sym, ap, subst, ◌∙◌, arith, ◌==◌, if◌then◌else◌}
-use Rattle.std.proofs.lemmas.Bool.{eq-eqb, eqb-true, ne_eqb, true≢false}
+use Rattle.script_runs.proofs.Prelude.{lives-at, not-fixed, op-refl, ClusterView, IsDown, IsUp, MayGo, OperatorGoesOn, ◌≡◌, ◌≢◌, ℕ, zero, suc, ◌<◌, true, false, ◌||◌, not, List, [], ◌∷◌, ◌++◌, length, Some, Contains, filter, remove, refl, sym, ap, subst, ◌∙◌, arith, ◌==◌, if◌then◌else◌, cond_both, eq-eqb, eqb-true, ne_eqb, or_parts, or_right, true≢false, slice_get_within, slice_get, Command}
 use Rattle.std.proofs.lemmas.List.Folds.{list_any_at}
 use Rattle.std.proofs.lemmas.List.Quantifiers.{all_pairs_remove}
-use Rattle.std.specs.Prelude.{slice_get}
 use Rattle.queue_balancer.specs.Balance.{HasNoDoubles}
 use Rattle.queue_balancer.proofs.CountLemmas.{HasNoDoubles-rest}
-use Rattle.silo_threads.specs.Operators.{OperatorGoesOn}
 use Rattle.silo_threads.proofs.Spreading.{one-more}
-use Rattle.std.specs.declared.alloc.AllocError.{AllocError}
-use Rattle.silo_threads.specs.declared.clusters.cluster.SiloDown.{SiloDown}
-use Rattle.silo_threads.specs.declared.clusters.cluster.SiloDown.TheVariants as down
-use Rattle.silo_threads.specs.declared.clusters.cluster.SiloUp.{SiloUp}
-use Rattle.silo_threads.specs.declared.clusters.cluster.SiloUp.TheVariants as up
-use Rattle.silo_threads.specs.Clusters.{AnswersDown, AnswersUp, ClusterView, HasMetLimit, IsDown, IsUp, MayGo, is_fixed}
-use Rattle.silo_threads.proofs.Standing.{lives-at, not-fixed, op-refl}
 use Rattle.stream_script.specs.declared.parser.command.Command.TheVariants as command
-use Rattle.script_runs.specs.ScriptReport.{refused_where}
+use Rattle.script_runs.specs.ScriptReport.{live_after, refused_where}
 use Rattle.script_runs.specs.Told.{is_among}
 use Rattle.script_runs.specs.declared.producer.answer.Answer.TheVariants as answer
-use Rattle.script_runs.specs.Lines.{ChangesBy, StaysOpen}
+use Rattle.script_runs.specs.Lines.{ChangesBy, PrintsChange, StaysOpen}
 
 -- ---- whether a silo is among those that live
 
@@ -68,36 +58,16 @@ removed (x ∷ xs) (suc place) silo once at =
     ap (λ ys. x ∷ ys) (removed xs place silo (HasNoDoubles-rest x xs once) at)
     ∙ ap (λ b. if not b then x ∷ filter (λ (other : ℕ). not (other == silo)) xs else filter (λ (other : ℕ). not (other == silo)) xs) (sym other)
 
-within : (xs : List ℕ) (k x : ℕ) → slice_get xs k ≡ Some x → k < length xs
-within [] k x at = absurd (cc)
-within (z ∷ xs) zero x at = omega arith
-within (z ∷ xs) (suc k) x at = omega (arith, within xs k x at)
-
 remove-once : (live : List ℕ) (place silo : ℕ) → HasNoDoubles live → slice_get live place ≡ Some silo → HasNoDoubles (remove live place)
-remove-once live place silo once at = all_pairs_remove (λ (one other : ℕ). one ≢ other) live place (within live place silo at) once
+remove-once live place silo once at = all_pairs_remove (λ (one other : ℕ). one ≢ other) live place (slice_get_within live place silo at) once
 
 long : (n : ℕ) → 1 < n → (n == 1) ≡ false
 long n more = ne_eqb n 1 (λ same. omega (arith, more, same))
 
-either-way : {A : Type 0} (b : Bool) (x y : A) → y ≡ x → x ≡ (if b then x else y)
-either-way true x y same = refl
-either-way false x y same = sym same
-
-or-true : (b : Bool) → (b || true) ≡ true
-or-true true = refl
-or-true false = refl
-
 -- ---- silos may still come and go
 
-parked-free : (parked halted : Bool) → (parked || halted) ≡ false → parked ≡ false
-parked-free true halted free = free
-parked-free false halted free = refl
-
-open-same : (v w : ClusterView) → w ≡ v → StaysOpen v w
-open-same v w same = λ free. (ap (λ (u : ClusterView). is_fixed u) same ∙ free, ap (λ (u : ClusterView). u.looks) same)
-
 open-after : (v w : ClusterView) → (w.is_parked ≡ v.is_parked) × (w.rounds ≡ v.rounds) × (w.looks ≡ v.looks) → w.is_halted ≡ false → StaysOpen v w
-open-after v w same goes = λ free. (not-fixed w (same.0 ∙ parked-free v.is_parked v.is_halted free) goes, same.2)
+open-after v w same goes = λ free. (not-fixed w (same.0 ∙ (or_parts v.is_parked v.is_halted free).0) goes, same.2)
 
 -- ---- what the answers say
 
@@ -117,19 +87,19 @@ came v w silo none comes =
       stays = open-after v w comes.same comes.goes_on;
     }
 
+-- a line that was refused left all as it was
+refused : (v w : ClusterView) (said : Command) → w ≡ v → v.operator.live ≡ live_after v.operator.live said → PrintsChange v.operator.live said answer.Refused → ChangesBy v said answer.Refused w
+refused v w said same live prints =
+    subst (λ (u : ClusterView). ChangesBy v said answer.Refused u) (sym same)
+    (record { on = op-refl v.operator; live = λ once. (live, once); prints = prints; found = λ number missed. refl; stays = λ free. (free, refl) })
+
 -- a silo lived already
 pub stays : (v w : ClusterView) (silo : ℕ) → Contains v.operator.live silo → w ≡ v → ChangesBy v (command.Up silo) answer.Refused w
 stays v w silo has same =
     let live = v.operator.live in
     let here = has-among silo live has in
-    subst (λ (u : ClusterView). ChangesBy v (command.Up silo) answer.Refused u) (sym same)
-    (record {
-      on = op-refl v.operator;
-      live = λ once. (ap (λ b. if b then live else live ++ silo ∷ []) (sym here), once);
-      prints = λ missed silos lines number is. ap (λ b. refused_where number b) (ap (λ (there : List ℕ). is_among silo there) (sym is) ∙ here);
-      found = λ number missed. refl;
-      stays = open-same v v refl;
-    })
+    refused v w (command.Up silo) same (ap (λ b. if b then live else live ++ silo ∷ []) (sym here))
+    (λ missed silos lines number is. ap (λ b. refused_where number b) (ap (λ (there : List ℕ). is_among silo there) (sym is) ∙ here))
 
 -- a silo went
 pub went : (v w : ClusterView) (silo : ℕ) → MayGo v silo → IsDown v silo w → ChangesBy v (command.Down silo) answer.Taken w
@@ -155,78 +125,21 @@ went v w silo may goes =
 pub lacks : (v w : ClusterView) (silo : ℕ) → ¬ Contains v.operator.live silo → w ≡ v → ChangesBy v (command.Down silo) answer.Refused w
 lacks v w silo none same =
     let live = v.operator.live in
-    subst (λ (u : ClusterView). ChangesBy v (command.Down silo) answer.Refused u) (sym same)
-    (record {
-      on = op-refl v.operator;
-      live = λ once. (either-way (length live == 1) live (filter (λ (other : ℕ). not (other == silo)) live) (kept-all silo live none), once);
-      prints = λ missed silos lines number is.
-          ap (λ (there : List ℕ). refused_where number (not (is_among silo there) || (length there == 1))) (sym is)
-          ∙ ap (λ b. refused_where number (not b || (length live == 1))) (not-among silo live none);
-      found = λ number missed. refl;
-      stays = open-same v v refl;
-    })
+    refused v w (command.Down silo) same (cond_both (length live == 1) live (filter (λ (other : ℕ). not (other == silo)) live) (λ (kept : List ℕ). live ≡ kept) (λ _. refl) (λ _. sym (kept-all silo live none)))
+    (λ missed silos lines number is.
+    ap (λ (there : List ℕ). refused_where number (not (is_among silo there) || (length there == 1))) (sym is)
+    ∙ ap (λ b. refused_where number (not b || (length live == 1))) (not-among silo live none))
 
 -- no other silo lived
 pub is-last : (v w : ClusterView) (silo : ℕ) → v.operator.live ≡ silo ∷ [] → w ≡ v → ChangesBy v (command.Down silo) answer.Refused w
 is-last v w silo one same =
     let live = v.operator.live in
     let single = eq-eqb (length live) 1 (ap (λ (there : List ℕ). length there) one) in
-    subst (λ (u : ClusterView). ChangesBy v (command.Down silo) answer.Refused u) (sym same)
-    (record {
-      on = op-refl v.operator;
-      live = λ once. (ap (λ b. if b then live else filter (λ (other : ℕ). not (other == silo)) live) (sym single), once);
-      prints = λ missed silos lines number is.
-          ap (λ (there : List ℕ). refused_where number (not (is_among silo there) || (length there == 1))) (sym is)
-          ∙ ap (λ b. refused_where number (not (is_among silo live) || b)) single
-          ∙ ap (λ b. refused_where number b) (or-true (not (is_among silo live)));
-      found = λ number missed. refl;
-      stays = open-same v v refl;
-    })
+    refused v w (command.Down silo) same (ap (λ b. if b then live else filter (λ (other : ℕ). not (other == silo)) live) (sym single))
+    (λ missed silos lines number is.
+    ap (λ (there : List ℕ). refused_where number (not (is_among silo there) || (length there == 1))) (sym is)
+    ∙ ap (λ b. refused_where number (not (is_among silo live) || b)) single
+    ∙ ap (λ b. refused_where number b) (or_right (not (is_among silo live)) true refl))
 
--- ---- the same by the answers of the cluster
-
-pub came-up : (v w : ClusterView) (silo : ℕ) (r : Result SiloUp AllocError) → AnswersUp v silo r w → r ≡ Ok up.Up → ChangesBy v (command.Up silo) answer.Taken w
-came-up v w silo r answers is = let a = subst (λ (x : Result SiloUp AllocError). AnswersUp v silo x w) is answers in came v w silo a.1 a.2
-
-pub was-there : (v w : ClusterView) (silo : ℕ) (r : Result SiloUp AllocError) → AnswersUp v silo r w → r ≡ Ok up.Already → ChangesBy v (command.Up silo) answer.Refused w
-was-there v w silo r answers is = let a = subst (λ (x : Result SiloUp AllocError). AnswersUp v silo x w) is answers in stays v w silo a.1 a.2
-
-pub went-down : (v w : ClusterView) (silo : ℕ) (r : Result SiloDown AllocError) → AnswersDown v silo r w → r ≡ Ok down.Down → ChangesBy v (command.Down silo) answer.Taken w
-went-down v w silo r answers is = let a = subst (λ (x : Result SiloDown AllocError). AnswersDown v silo x w) is answers in went v w silo a.1 a.2
-
-pub was-away : (v w : ClusterView) (silo : ℕ) (r : Result SiloDown AllocError) → AnswersDown v silo r w → r ≡ Ok down.NotLive → ChangesBy v (command.Down silo) answer.Refused w
-was-away v w silo r answers is = let a = subst (λ (x : Result SiloDown AllocError). AnswersDown v silo x w) is answers in lacks v w silo a.1 a.2
-
-pub was-last : (v w : ClusterView) (silo : ℕ) (r : Result SiloDown AllocError) → AnswersDown v silo r w → r ≡ Ok down.LastSilo → ChangesBy v (command.Down silo) answer.Refused w
-was-last v w silo r answers is = let a = subst (λ (x : Result SiloDown AllocError). AnswersDown v silo x w) is answers in is-last v w silo a.1 a.2
-
-same-on : (v w : ClusterView) → w ≡ v → OperatorGoesOn v.operator w.operator
+pub same-on : (v w : ClusterView) → w ≡ v → OperatorGoesOn v.operator w.operator
 same-on v w same = subst (λ (u : ClusterView). OperatorGoesOn v.operator u.operator) (sym same) (op-refl v.operator)
-
-pub up-on : (v w : ClusterView) (silo : ℕ) (r : Result SiloUp AllocError) → AnswersUp v silo r w → OperatorGoesOn v.operator w.operator
-up-on v w silo (Ok up.Up) a = a.2.on
-up-on v w silo (Ok up.Already) a = same-on v w a.2
-up-on v w silo (Ok up.Limit) a = a.2.on
-up-on v w silo (Ok up.Halted) a = same-on v w a.1
-up-on v w silo (Err e) a = a.2.on
-
-pub down-on : (v w : ClusterView) (silo : ℕ) (r : Result SiloDown AllocError) → AnswersDown v silo r w → OperatorGoesOn v.operator w.operator
-down-on v w silo (Ok down.Down) a = a.2.on
-down-on v w silo (Ok down.NotLive) a = same-on v w a.2
-down-on v w silo (Ok down.LastSilo) a = same-on v w a.2
-down-on v w silo (Ok down.Limit) a = a.2.on
-down-on v w silo (Ok down.Halted) a = same-on v w a.1
-down-on v w silo (Err e) a = a.2.on
-
--- why a silo didn't come or go
-pub up-stops : (v w : ClusterView) (silo : ℕ) (r : Result SiloUp AllocError) → AnswersUp v silo r w → is_fixed v ≡ false → (r ≡ Ok up.Halted → ⊥) × (r ≡ Ok up.Limit → HasMetLimit v.operator w.operator)
-up-stops v w silo r answers free = (
-  λ is. true≢false (sym (subst (λ (x : Result SiloUp AllocError). AnswersUp v silo x w) is answers).0 ∙ free),
-  λ is. (subst (λ (x : Result SiloUp AllocError). AnswersUp v silo x w) is answers).3,
-)
-
-pub down-stops : (v w : ClusterView) (silo : ℕ) (r : Result SiloDown AllocError) → AnswersDown v silo r w → is_fixed v ≡ false → (r ≡ Ok down.Halted → ⊥) × (r ≡ Ok down.Limit → HasMetLimit v.operator w.operator)
-down-stops v w silo r answers free = (
-  λ is. true≢false (sym (subst (λ (x : Result SiloDown AllocError). AnswersDown v silo x w) is answers).0 ∙ free),
-  λ is. (subst (λ (x : Result SiloDown AllocError). AnswersDown v silo x w) is answers).4,
-)

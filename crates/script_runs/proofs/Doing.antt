@@ -1,24 +1,21 @@
 -- What a line does, by what it asks for.
-use Rattle.std.proofs.Common.{◌≡◌, ◌≢◌, ◌≤◌, ℕ, inl, inr, List, Option, None, Result, Ok, Err, IfErr, IfOk, refl, sym, ap, subst, ◌∙◌}
-use Rattle.std.specs.declared.alloc.AllocError.{AllocError}
-use Rattle.stream_model.specs.declared.op.Op.{Op}
-use Rattle.turnstile.specs.declared.turnstile.Refusal.TheVariants.{HistoryFull}
-use Rattle.silo_loops.specs.Lines.{QueuePass}
-use Rattle.silo_threads.proofs.Rows.{zip-refl}
-use Rattle.silo_threads.specs.Clusters.{ClusterView, HasMetLimit}
-use Rattle.silo_threads.specs.Draining.{HasGoneOn, Looks, LooksAWhile, LooksInVain, LooksQuiet}
-use Rattle.stream_script.specs.declared.parser.command.Command.{Command}
+use Rattle.script_runs.proofs.Prelude.{QueuePass, gone-refl, zip-refl, op-refl, AnswersDown, AnswersUp, ClusterView, is_fixed, HasGoneOn, Looks, LooksAWhile, LooksInVain, LooksQuiet, OperatorGoesOn, ◌≡◌, ◌≢◌, ◌≤◌, ℕ, inl, inr, true, false, List, Option, None, Result, Ok, Err, IfErr, IfOk, OnErr, refl, sym, ap, subst, ◌∙◌, true≢false, AllocError, is_producer, Op, op_of, Command, EachOp, HistoryFull}
+use Rattle.silo_threads.specs.declared.clusters.cluster.SiloDown.{SiloDown}
+use Rattle.silo_threads.specs.declared.clusters.cluster.SiloDown.TheVariants as down
+use Rattle.silo_threads.specs.declared.clusters.cluster.SiloUp.{SiloUp}
+use Rattle.silo_threads.specs.declared.clusters.cluster.SiloUp.TheVariants as up
 use Rattle.stream_script.specs.declared.parser.command.Command.TheVariants as command
 use Rattle.script_runs.specs.ScriptReport.{live_after}
 use Rattle.script_runs.specs.Told as script
+use Rattle.script_runs.proofs.Changing.{came, is-last, lacks, same-on, stays, went}
+use Rattle.script_runs.proofs.Fronts.{each-part, silent-part, step-part}
 use Rattle.script_runs.proofs.Growing.{scripts-grow}
 use Rattle.script_runs.specs.declared.producer.answer.Answer.{Answer}
 use Rattle.script_runs.specs.declared.producer.answer.Answer.TheVariants as answer
-use Rattle.silo_threads.proofs.GoneOn.{gone-refl}
-use Rattle.script_runs.specs.Telling.{AsksLast, AsksOnce, EndsAsking, Tells, TellsUnlessLimit, with_missed}
+use Rattle.script_runs.specs.Telling.{AsksEachOnce, AsksLast, AsksOnce, EndsAsking, Tells, TellsUnlessLimit, with_missed}
 use Rattle.script_runs.specs.declared.runs.line.Stop.{Stop}
 use Rattle.script_runs.specs.declared.runs.line.Stop.TheVariants as stop
-use Rattle.script_runs.specs.Lines.{ChangesBy, DoesLine, IsOfWait, IsUnquiet, MeetsLimit, StopsBy, WaitsAWhile, WaitsInVain}
+use Rattle.script_runs.specs.Lines.{ChangesBy, DoesLine, IsUnquiet, MeetsLimit, StopsBy, TellsInPart, WaitsAWhile, WaitsInVain, came_up, unless_limit, went_down}
 
 -- a line that asks for something at the queues
 pub tells-line : (v : ClusterView) (old new : List QueuePass) (said : Command) (a : Answer) → ((live : List ℕ) → live_after live said ≡ live) → Tells old said a new → (said ≡ command.Drain → LooksQuiet v.looks old new) → DoesLine v old said a v new
@@ -32,7 +29,7 @@ tells-line v old new said a same tells quiet =
     }
 
 -- a line by which a silo comes or goes
-pub changes-line : (v w : ClusterView) (passes : List QueuePass) (said : Command) (a : Answer) → ((queue : ℕ) → script.op_at queue said ≡ None) → (said ≡ command.Drain → ⊥) → ChangesBy v said a w → DoesLine v passes said a w passes
+changes-line : (v w : ClusterView) (passes : List QueuePass) (said : Command) (a : Answer) → ((queue : ℕ) → script.op_at queue said ≡ None) → (said ≡ command.Drain → ⊥) → ChangesBy v said a w → DoesLine v passes said a w passes
 changes-line v w passes said a none other changes =
     record {
       live = changes.live;
@@ -47,43 +44,69 @@ changes-line v w passes said a none other changes =
       stays = changes.stays;
     }
 
--- ---- the same by what came of it
+-- ---- how a line with this command ends
 
-pub asked-line : (v : ClusterView) (old new : List QueuePass) (said : Command) (asked : Result Answer AllocError) (result : Result Answer Stop) → ((live : List ℕ) → live_after live said ≡ live) → (said ≡ command.Drain → ⊥)
-    → IfOk asked (λ a. TellsUnlessLimit old said a new) → IfOk result (λ taken. (asked ≡ Ok taken) × (taken ≢ answer.Limit)) → IfOk result (λ told. DoesLine v old said told v new)
-asked-line v old new said asked (Ok a) same other tells taken =
-    tells-line v old new said a same (subst (λ (r : Result Answer AllocError). IfOk r (λ b. TellsUnlessLimit old said b new)) taken.0 tells taken.1) (λ drains. absurd (other drains))
-asked-line v old new said asked (Err e) same other tells taken = tt
+pub record LineEnds (v : ClusterView) (old : List QueuePass) (said : Command) (result : Result Answer Stop) (w : ClusterView) (new : List QueuePass) : Type 0 where
+  pub line : IfOk result (λ told. DoesLine v old said told w new)
+  pub part : OnErr result (TellsInPart old said new)
+  pub stops : is_fixed v ≡ false → IfErr result (λ why. StopsBy why said v old w new)
+  pub cluster : OperatorGoesOn v.operator w.operator
 
-pub changed-line : (v w : ClusterView) (passes : List QueuePass) (said : Command) (result : Result Answer Stop) → ((queue : ℕ) → script.op_at queue said ≡ None) → (said ≡ command.Drain → ⊥)
-    → IfOk result (λ told. ChangesBy v said told w) → IfOk result (λ told. DoesLine v passes said told w passes)
-changed-line v w passes said (Ok a) none other changes = changes-line v w passes said a none other changes
-changed-line v w passes said (Err e) none other changes = tt
+-- the command and the result are these
+pub ends-so : (v w : ClusterView) (old new : List QueuePass) (said here : Command) (result gave : Result Answer Stop) → said ≡ here → result ≡ gave → LineEnds v old here gave w new → LineEnds v old said result w new
+ends-so v w old new said here result gave is same ends =
+    subst (λ (c : Command). LineEnds v old c result w new) (sym is) (subst (λ (r : Result Answer Stop). LineEnds v old here r w new) (sym same) ends)
 
--- ---- why a line was stopped
+-- ---- a line that asks at the queues
 
-pub asked-stops : (command : Command) (v : ClusterView) (old new : List QueuePass) (asked : Result Answer AllocError) (result : Result Answer Stop) → (asked ≡ Ok answer.Limit → MeetsLimit command v old v new)
-    → IfErr result (λ why. (¬ IsOfWait why) × (why ≡ stop.Limit → asked ≡ Ok answer.Limit)) → IfErr result (λ why. StopsBy why command v old v new)
-asked-stops command v old new asked (Ok a) last stops = tt
-asked-stops command v old new asked (Err stop.Limit) last stops = last (stops.1 refl)
-asked-stops command v old new asked (Err stop.NotQuiet) last stops = absurd (stops.0 tt)
-asked-stops command v old new asked (Err stop.RoundLimit) last stops = absurd (stops.0 tt)
-asked-stops command v old new asked (Err stop.Memory) last stops = tt
+asked-ends : (v : ClusterView) (old new : List QueuePass) (said : Command) (asked : Result Answer AllocError) → ((live : List ℕ) → live_after live said ≡ live) → (said ≡ command.Drain → ⊥)
+    → IfOk asked (λ a. TellsUnlessLimit old said a new) → TellsInPart old said new → (asked ≡ Ok answer.Limit → MeetsLimit said v old v new) → LineEnds v old said (unless_limit asked) v new
+asked-ends v old new said (Ok answer.Limit) same other tells part meets = record { line = tt; part = part; stops = λ free. meets refl; cluster = op-refl v.operator }
+asked-ends v old new said (Ok a) same other tells part meets =
+    record { line = tells-line v old new said a same (tells (λ limit. absurd (cc limit))) (λ drains. absurd (other drains)); part = tt; stops = λ free. tt; cluster = op-refl v.operator }
+asked-ends v old new said (Err e) same other tells part meets = record { line = tt; part = part; stops = λ free. tt; cluster = op-refl v.operator }
 
-pub once-last : (old : List QueuePass) (queue : ℕ) (op : Op) (asked : Result Answer AllocError) (new : List QueuePass) → AsksOnce old queue op asked new → asked ≡ Ok answer.Limit → AsksLast old op (Ok answer.Limit) new
+once-last : (old : List QueuePass) (queue : ℕ) (op : Op) (asked : Result Answer AllocError) (new : List QueuePass) → AsksOnce old queue op asked new → asked ≡ Ok answer.Limit → AsksLast old op (Ok answer.Limit) new
 once-last old queue op asked new once is =
     record { before = old; on = zip-refl HasGoneOn gone-refl old; queue = queue; asks = subst (λ (r : Result Answer AllocError). AsksOnce old queue op r new) is once }
 
-pub each-last : (old : List QueuePass) (op : Op) (asked : Result Answer AllocError) (new : List QueuePass) → EndsAsking old op asked new → asked ≡ Ok answer.Limit → AsksLast old op (Ok answer.Limit) new
-each-last old op asked new ends is = subst (λ (r : Result Answer AllocError). EndsAsking old op r new) is ends
+pub step-ends : (v : ClusterView) (old new : List QueuePass) (queue : ℕ) (op : Op) (asked : Result Answer AllocError) → is_producer op ≡ true
+    → IfOk asked (λ a. TellsUnlessLimit old (command.Step queue op) a new) → AsksOnce old queue op asked new → LineEnds v old (command.Step queue op) (unless_limit asked) v new
+step-ends v old new queue op asked produces tells once =
+    asked-ends v old new (command.Step queue op) asked (λ live. refl) (λ drains. absurd (cc drains)) tells (step-part old new queue op asked produces once) (once-last old queue op asked new once)
 
-pub changed-stops : (command : Command) (v w : ClusterView) (passes : List QueuePass) (result : Result Answer Stop) → (HasMetLimit v.operator w.operator → MeetsLimit command v passes w passes)
-    → IfErr result (λ why. (¬ IsOfWait why) × (why ≡ stop.Limit → HasMetLimit v.operator w.operator)) → IfErr result (λ why. StopsBy why command v passes w passes)
-changed-stops command v w passes (Ok a) meets stops = tt
-changed-stops command v w passes (Err stop.Limit) meets stops = meets (stops.1 refl)
-changed-stops command v w passes (Err stop.NotQuiet) meets stops = absurd (stops.0 tt)
-changed-stops command v w passes (Err stop.RoundLimit) meets stops = absurd (stops.0 tt)
-changed-stops command v w passes (Err stop.Memory) meets stops = tt
+pub each-ends : (v : ClusterView) (old new : List QueuePass) (each : EachOp) (asked : Result Answer AllocError) → is_producer (op_of each) ≡ true
+    → IfOk asked (λ a. TellsUnlessLimit old (command.Each each) a new) → AsksEachOnce old (op_of each) asked new → EndsAsking old (op_of each) asked new
+    → LineEnds v old (command.Each each) (unless_limit asked) v new
+each-ends v old new each asked produces tells once ends =
+    asked-ends v old new (command.Each each) asked (λ live. refl) (λ drains. absurd (cc drains)) tells (each-part old new each asked produces once)
+    (λ is. subst (λ (r : Result Answer AllocError). EndsAsking old (op_of each) r new) is ends)
+
+-- ---- a line by which a silo was to come or to go
+
+module _ (v w : ClusterView) (passes : List QueuePass) (said : Command) (none : (queue : ℕ) → script.op_at queue said ≡ None) where
+  changed-ends : (a : Answer) → (said ≡ command.Drain → ⊥) → ChangesBy v said a w → LineEnds v passes said (Ok a) w passes
+  changed-ends a other changes = record { line = changes-line v w passes said a none other changes; part = tt; stops = λ free. tt; cluster = changes.on }
+
+  halted-ends : (why : Stop) → (is_fixed v ≡ false → StopsBy why said v passes w passes) → OperatorGoesOn v.operator w.operator → LineEnds v passes said (Err why) w passes
+  halted-ends why stops on = record { line = tt; part = silent-part passes said none; stops = stops; cluster = on }
+
+pub up-ends : (v w : ClusterView) (passes : List QueuePass) (silo : ℕ) (r : Result SiloUp AllocError) → AnswersUp v silo r w → LineEnds v passes (command.Up silo) (came_up r) w passes
+up-ends v w passes silo (Ok up.Up) a = changed-ends v w passes (command.Up silo) (λ queue. refl) answer.Taken (λ drains. absurd (cc drains)) (came v w silo a.1 a.2)
+up-ends v w passes silo (Ok up.Already) a = changed-ends v w passes (command.Up silo) (λ queue. refl) answer.Refused (λ drains. absurd (cc drains)) (stays v w silo a.1 a.2)
+up-ends v w passes silo (Ok up.Limit) a = halted-ends v w passes (command.Up silo) (λ queue. refl) stop.Limit (λ free. a.3) a.2.on
+up-ends v w passes silo (Ok up.Halted) a = halted-ends v w passes (command.Up silo) (λ queue. refl) stop.Limit (λ free. absurd (true≢false (sym a.0 ∙ free))) (same-on v w a.1)
+up-ends v w passes silo (Err e) a = halted-ends v w passes (command.Up silo) (λ queue. refl) stop.Memory (λ free. tt) a.2.on
+
+pub down-ends : (v w : ClusterView) (passes : List QueuePass) (silo : ℕ) (r : Result SiloDown AllocError) → AnswersDown v silo r w → LineEnds v passes (command.Down silo) (went_down r) w passes
+down-ends v w passes silo (Ok down.Down) a = changed-ends v w passes (command.Down silo) (λ queue. refl) answer.Taken (λ drains. absurd (cc drains)) (went v w silo a.1 a.2)
+down-ends v w passes silo (Ok down.NotLive) a = changed-ends v w passes (command.Down silo) (λ queue. refl) answer.Refused (λ drains. absurd (cc drains)) (lacks v w silo a.1 a.2)
+down-ends v w passes silo (Ok down.LastSilo) a = changed-ends v w passes (command.Down silo) (λ queue. refl) answer.Refused (λ drains. absurd (cc drains)) (is-last v w silo a.1 a.2)
+down-ends v w passes silo (Ok down.Limit) a = halted-ends v w passes (command.Down silo) (λ queue. refl) stop.Limit (λ free. a.4) a.2.on
+down-ends v w passes silo (Ok down.Halted) a = halted-ends v w passes (command.Down silo) (λ queue. refl) stop.Limit (λ free. absurd (true≢false (sym a.0 ∙ free))) (same-on v w a.1)
+down-ends v w passes silo (Err e) a = halted-ends v w passes (command.Down silo) (λ queue. refl) stop.Memory (λ free. tt) a.2.on
+
+-- ---- why a wait was stopped
 
 vain-now : (made : ℕ) (old new : List QueuePass) → LooksInVain made old new → WaitsInVain made old new
 vain-now made old new vain = record { before = old; on = zip-refl HasGoneOn gone-refl old; vain = vain }

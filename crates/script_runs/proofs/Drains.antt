@@ -1,16 +1,12 @@
 -- A line that drains tells nothing more, and why it is stopped.
-use Rattle.std.proofs.Common.{◌≡◌, ℕ, inr, List, Option, Some, None, refl, sym, subst}
-use Rattle.std.specs.List.{AllZip}
-use Rattle.silo_loops.specs.Lines.{QueuePass}
+use Rattle.script_runs.proofs.Prelude.{QueuePass, all-at, zip-at, LooksAWhile, ProducesNone, ◌≡◌, ℕ, inr, List, Option, Some, None, refl, sym, subst, AllZip}
 use Rattle.silo_loops.specs.declared.advance.LoopEnd.{LoopEnd}
 use Rattle.silo_loops.specs.declared.advance.Over.{Over}
 use Rattle.silo_loops.specs.declared.advance.Over.TheVariants as over
-use Rattle.silo_threads.proofs.Rows.{all-at, zip-at}
 use Rattle.stream_script.specs.declared.parser.command.Command.TheVariants as command
 use Rattle.script_runs.specs.declared.producer.answer.Answer.TheVariants as answer
 use Rattle.script_runs.specs.Telling.{ProducesAlone, Tells}
 use Rattle.script_runs.proofs.Replying.{line-none}
-use Rattle.silo_threads.specs.Draining.{LooksAWhile, ProducesNone}
 use Rattle.script_runs.proofs.Seen.{none-told}
 use Rattle.script_runs.specs.declared.runs.line.Stop.{Stop}
 use Rattle.script_runs.specs.Lines.{IsUnquiet, stop_by, stop_by_over}

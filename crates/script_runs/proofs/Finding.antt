@@ -1,19 +1,14 @@
 -- What is read of a script, line by line.
-use Rattle.std.proofs.Common.{◌≡◌, ℕ, ◌≤◌, ◌<◌, ◌+◌, List, [], ◌∷◌, ◌++◌, Result, Ok, Err, refl, sym, ap, subst, ◌∙◌, append_assoc, arith}
-use Rattle.std.proofs.lemmas.List.{append-nil}
-use Rattle.std.specs.List.{AllByRecursion}
+use Rattle.script_runs.proofs.Prelude.{◌≡◌, ℕ, ◌≤◌, ◌<◌, ◌+◌, List, [], ◌∷◌, ◌++◌, Result, Ok, Err, refl, sym, ap, subst, ◌∙◌, append_assoc, arith, AllByRecursion, All-push, All-weaken, Reads, IsWithin, Command}
 use Rattle.stream_model.specs.declared.op.Op.TheVariants as op
-use Rattle.stream_script.specs.declared.parser.command.Command.{Command}
 use Rattle.stream_script.specs.declared.parser.command.Command.TheVariants as command
 use Rattle.stream_script.specs.declared.parser.command.EachOp.TheVariants as each
 use Rattle.stream_script.specs.declared.parser.command.Fault.{Fault}
 use Rattle.stream_script.specs.declared.parser.command.Mode.TheVariants as mode
 use Rattle.stream_script.specs.declared.parser.command.Parsed.TheVariants as parsed
-use Rattle.stream_ident.proofs.EachOf.{All-push}
-use Rattle.stream_script.specs.Grammar.{Reads}
-use Rattle.stream_script.specs.Reading.{IsWithin, reading}
+use Rattle.stream_script.specs.Reading.{reading}
 use Rattle.script_runs.specs.declared.reader.line.Line.{Line}
-use Rattle.script_runs.specs.Scripts.{IsRunCommand, IsScript, RisesFrom, lines_after, with_parsed}
+use Rattle.script_runs.specs.Scripts.{IsRunCommand, RisesFrom, lines_after, with_parsed}
 
 -- what is read of more lines is put behind what was found
 abbrev behind : List Line → Result (List Line) Fault → Result (List Line) Fault
@@ -26,13 +21,6 @@ pub record Found (queues : ℕ) (all : List (List ℕ)) (last : ℕ) (rest : Lis
   pub commands : AllByRecursion (λ (line : Line). IsRunCommand queues line.command) found
   pub rises : RisesFrom 0 found
   pub below : AllByRecursion (λ (line : Line). line.number ≤ last) found
-
-behind-nothing : (read : Result (List Line) Fault) → read ≡ behind [] read
-behind-nothing (Ok lines) = refl
-behind-nothing (Err fault) = refl
-
-pub begins : (queues : ℕ) (all : List (List ℕ)) → Found queues all 0 all []
-begins queues all = record { whole = behind-nothing (lines_after queues 0 all); commands = tt; rises = tt; below = tt }
 
 -- a command that stands in a script which is run
 pub may-run : (queues : ℕ) (line : List ℕ) (c : Command) → Reads mode.Run queues line c → IsWithin queues (parsed.Command c) → IsRunCommand queues c
@@ -52,8 +40,7 @@ behind-more found line (Ok lines) = ap Ok (sym (append_assoc found (line ∷ [])
 behind-more found line (Err fault) = refl
 
 all-later : (last : ℕ) (found : List Line) → AllByRecursion (λ (line : Line). line.number ≤ last) found → AllByRecursion (λ (line : Line). line.number ≤ last + 1) found
-all-later last [] all = tt
-all-later last (line ∷ found) all = let here : line.number ≤ last = all.0 in (omega (arith, here), all-later last found all.1)
+all-later last found all = All-weaken (λ (line : Line). line.number ≤ last) (λ (line : Line). line.number ≤ last + 1) (λ line less. omega (arith, less)) found all
 
 rises-push : (from last : ℕ) (found : List Line) (line : Line) → from ≤ last → AllByRecursion (λ (x : Line). x.number ≤ last) found → last < line.number → RisesFrom from found → RisesFrom from (found ++ line ∷ [])
 rises-push from last [] line within below more rises = (omega (arith, within, more), tt)
@@ -79,9 +66,3 @@ skips queues all last line rest found was read =
       rises = was.rises;
       below = all-later last found was.below;
     }
-
-pub faulty : (queues : ℕ) (all : List (List ℕ)) (last : ℕ) (line : List ℕ) (rest : List (List ℕ)) (found : List Line) (fault : Fault) → Found queues all last (line ∷ rest) found → parsed.Fault fault ≡ reading queues mode.Run (last + 1) line → lines_after queues 0 all ≡ Err fault
-faulty queues all last line rest found fault was read = was.whole ∙ ap (λ p. behind found (with_parsed (last + 1) p (lines_after queues (last + 1) rest))) (sym read)
-
-pub ends : (queues : ℕ) (all : List (List ℕ)) (last : ℕ) (found : List Line) → Found queues all last [] found → (lines_after queues 0 all ≡ Ok found) × IsScript queues found
-ends queues all last found was = (was.whole ∙ ap Ok (append-nil found), record { commands = was.commands; rises = was.rises })

@@ -1,41 +1,18 @@
 -- What was told of a script up to the line that was stopped.
-use Rattle.std.proofs.Common.{◌≡◌, ◌≢◌, ◌⊎◌, inl, inr, if◌then◌else◌, ℕ, zero, suc, ◌<◌, true, arith, length, List, [], ◌∷◌, ◌++◌, Option, Some, None, Result, Ok, Err, refl, sym, ap, subst, ◌∙◌}
-use Rattle.std.proofs.lemmas.Bool.{eq-eqb}
-use Rattle.std.proofs.lemmas.Bool.Decides.{eqb_tells}
-use Rattle.std.proofs.lemmas.List.{append-nil}
-use Rattle.std.specs.List.{AllByRecursion, AllZip}
-use Rattle.std.specs.Prelude.{slice_get}
-use Rattle.std.specs.declared.alloc.AllocError.{AllocError}
-use Rattle.stream_model.specs.declared.op.Op.{Op}
-use Rattle.stream_model.specs.Replies.{Reply}
+use Rattle.script_runs.proofs.Prelude.{owns-foreign, QueuePass, asks-foreign, all-at, zip-at, QueueCalls, ClusterView, ProducesNone, ◌≡◌, ◌⊎◌, inl, inr, if◌then◌else◌, ℕ, ◌<◌, true, arith, length, List, [], ◌∷◌, ◌++◌, Option, Some, None, Result, Ok, Err, refl, sym, ap, subst, ◌∙◌, append-nil, slice_get_within, AllZip, slice_get, AllocError, is_producer, Reply, Op, op_of, Command, EachOp, numbers_of, Entry, Refusal}
 use Rattle.stream_model.specs.History as told
-use Rattle.stream_model.specs.Producers.{is_producer}
-use Rattle.turnstile.specs.declared.history.Entry.{Entry}
-use Rattle.turnstile.specs.declared.turnstile.Refusal.{Refusal}
-use Rattle.turnstile.specs.Calls.{numbers_of}
-use Rattle.silo_loops.specs.Lines.{QueuePass}
-use Rattle.silo_loops.proofs.Owning.{owns-foreign}
-use Rattle.silo_threads.specs.Calls.{QueueCalls}
-use Rattle.silo_threads.proofs.Rows.{all-at, zip-at}
-use Rattle.silo_threads.specs.Clusters.{ClusterView}
-use Rattle.silo_threads.specs.Draining.{ProducesNone}
-use Rattle.silo_threads.proofs.GoneOn.{asks-foreign}
-use Rattle.stream_script.specs.declared.parser.command.Command.{Command}
 use Rattle.stream_script.specs.declared.parser.command.Command.TheVariants as command
-use Rattle.stream_script.specs.declared.parser.command.EachOp.{EachOp}
-use Rattle.stream_script.specs.Forms.{op_of}
 use Rattle.script_runs.specs.declared.reader.line.Line.{Line}
-use Rattle.script_runs.specs.ScriptLaws.{HasNoLine}
 use Rattle.script_runs.specs.Told as script
 use Rattle.script_runs.proofs.Growing.{scripts-grow}
-use Rattle.script_runs.proofs.Misses.{misses-change-no-other}
 use Rattle.script_runs.specs.declared.producer.answer.Answer.{Answer}
 use Rattle.script_runs.specs.declared.producer.answer.Answer.TheVariants as answer
-use Rattle.script_runs.specs.Telling.{AloneProduces, AsksEachOnce, AsksOnce, AsksUpTo, BeginsEmpty, HasTold, IsAsked, IsNewNumber, ProducesAlone, Tells, told_at, with_missed}
-use Rattle.script_runs.proofs.Asked.{before-at}
+use Rattle.script_runs.specs.Telling.{AsksEachOnce, AsksOnce, AsksUpTo, IsAsked, ProducesAlone, Tells, told_at, with_missed}
+use Rattle.script_runs.proofs.Asked.{before-at, op-here, op-there}
 use Rattle.script_runs.proofs.Placing.{set-at}
+use Rattle.script_runs.proofs.Replying.{before-same}
 use Rattle.script_runs.proofs.Seen.{called-told, none-told}
-use Rattle.script_runs.specs.Lines.{DoesLine, HasToldFront, IsToldInPart, IsToldOnce, TellsInPart}
+use Rattle.script_runs.specs.Lines.{DoesLine, IsToldInPart, IsToldOnce, TellsInPart}
 
 -- ---- parts of a line
 
@@ -52,24 +29,7 @@ whole-part at asked queue rest less once = record { before = λ _. once; here = 
 stopped-part : (at : ℕ) (asked : Command) (queue : ℕ) (rest : List told.Entry) → queue ≡ at → ((rest ≡ []) ⊎ IsToldOnce (script.op_at queue asked) rest) → IsToldInPart at asked queue rest
 stopped-part at asked queue rest same most = record { before = λ less. absurd (omega (arith, less, same)); here = λ _. most; behind = λ past. absurd (omega (arith, past, same)) }
 
-within-all : {A : Type 0} (xs : List A) (k : ℕ) (x : A) → slice_get xs k ≡ Some x → k < length xs
-within-all [] k x at = absurd (cc)
-within-all (y ∷ xs) zero x at = omega arith
-within-all (y ∷ xs) (suc k) x at = omega (arith, within-all xs k x at)
-
 -- ---- a line that asks at one queue
-
-op-here : (queue : ℕ) (op : Op) → is_producer op ≡ true → script.op_at queue (command.Step queue op) ≡ Some op
-op-here queue op produces =
-    ap (λ b. if b then script.producer_op op else None) (eq-eqb queue queue refl)
-    ∙ ap (λ b. if b then Some op else None) produces
-
-op-there : (queue other : ℕ) (op : Op) → (other ≢ queue) → script.op_at other (command.Step queue op) ≡ None
-op-there queue other op differs =
-    elim (eqb_tells queue other) as (λ s. script.op_at other (command.Step queue op) ≡ None) [
-      | inl same ↦ absurd (differs (sym same.1))
-      | inr not ↦ ap (λ b. if b then script.producer_op op else None) not.0
-    ]
 
 -- a call that was refused adds nothing
 refused-none : (p q : QueuePass) (op : Op) (refusal : Refusal) → QueueCalls p op (Err refusal) q → ProducesNone p q
@@ -80,13 +40,21 @@ refused-none p q op refusal calls =
       none = owns-foreign is_producer (numbers_of p) found.0 found.2;
     }
 
-call-part : (p q : QueuePass) (op : Op) (outcome : Result Reply Refusal) (before : List told.Entry) → is_producer op ≡ true → ProducesAlone q → QueueCalls p op outcome q → told_at p ≡ before
-    → (rest : List told.Entry) × (told_at q ≡ before ++ rest) × ((rest ≡ []) ⊎ IsToldOnce (Some op) rest)
-call-part p q op (Ok r) before produces alone calls so_far =
-    let last : List told.Entry = record { op = op; reply = script.told_of r } ∷ [] in
-    (last, (called-told p q op r produces calls alone).1 ∙ ap (λ (es : List told.Entry). es ++ last) so_far, inr (script.told_of r, refl))
-call-part p q op (Err refusal) before produces alone calls so_far =
-    ([], none-told p q (refused-none p q op refusal calls) alone ∙ so_far ∙ sym (append-nil before), inl refl)
+-- at a queue the lines before were told, and a part of this one
+abbrev ToldPart : ℕ → Command → ℕ → List told.Entry → QueuePass → Type 0
+ToldPart at said queue before q = (rest : List told.Entry) × (told_at q ≡ before ++ rest) × IsToldInPart at said queue rest
+
+-- at the queue of the last call
+call-part : (p q : QueuePass) (op : Op) (outcome : Result Reply Refusal) (said : Command) (at queue : ℕ) (before : List told.Entry) → queue ≡ at → script.op_at queue said ≡ Some op → is_producer op ≡ true → ProducesAlone q
+    → QueueCalls p op outcome q → told_at p ≡ before → ToldPart at said queue before q
+call-part p q op (Ok r) said at queue before here asks produces alone calls so_far =
+    let last : List told.Entry = record { op = op; reply = script.told_of r } ∷ [] in (
+      last,
+      (called-told p q op r produces calls alone).1 ∙ ap (λ (es : List told.Entry). es ++ last) so_far,
+      stopped-part at said queue last here (inr (subst (λ (o : Option Op). IsToldOnce o last) (sym asks) (script.told_of r, refl))),
+    )
+call-part p q op (Err refusal) said at queue before here asks produces alone calls so_far =
+    ([], none-told p q (refused-none p q op refusal calls) alone ∙ so_far ∙ sym (append-nil before), stopped-part at said queue [] here (inl refl))
 
 pub step-part : (old new : List QueuePass) (queue : ℕ) (op : Op) (result : Result Answer AllocError) → is_producer op ≡ true → AsksOnce old queue op result new → TellsInPart old (command.Step queue op) new
 step-part old new queue op result produces once begins alone missed lines number fresh has = (
@@ -96,12 +64,10 @@ step-part old new queue op result produces once begins alone missed lines number
       let was = calls.was in
       let asks = command.Step queue op in
       let before = script.told missed other lines in
-      elim (set-at old queue other was calls.is q calls.had (ap (λ (es : List QueuePass). slice_get es other) (sym calls.whole) ∙ at)) as (λ s. (rest : List told.Entry) × (told_at q ≡ before ++ rest) × IsToldInPart queue asks other rest) [
+      elim (set-at old queue other was calls.is q calls.had (ap (λ (es : List QueuePass). slice_get es other) (sym calls.whole) ∙ at)) as (λ s. ToldPart queue asks other before q) [
         | inl here ↦
-            let part =
-            call-part was q op once.outcome before produces (all-at ProducesAlone new other q alone at) (subst (λ (w : QueuePass). QueueCalls was op once.outcome w) (sym here.1) calls.calls)
-            (has other was (ap (λ k. slice_get old k) here.0 ∙ calls.had)) in
-            (part.0, part.1, stopped-part queue asks other part.0 here.0 (subst (λ (o : Option Op). (part.0 ≡ []) ⊎ IsToldOnce o part.0) (sym (ap (λ k. script.op_at k asks) here.0 ∙ op-here queue op produces)) part.2))
+            call-part was q op once.outcome asks queue other before here.0 (ap (λ k. script.op_at k asks) here.0 ∙ op-here queue op produces) produces (all-at ProducesAlone new other q alone at)
+            (subst (λ (w : QueuePass). QueueCalls was op once.outcome w) (sym here.1) calls.calls) (has other was (ap (λ k. slice_get old k) here.0 ∙ calls.had))
         | inr there ↦ ([], has other q there.1 ∙ sym (append-nil before), none-part queue asks other (λ less. op-there queue other op there.0))
       ],
 )
@@ -114,7 +80,7 @@ op-each each queue produces = ap (λ b. if b then Some (op_of each) else None) p
 
 -- at a queue that was asked before the line was stopped
 asked-part : (p q : QueuePass) (each : EachOp) (last : ℕ) (queue : ℕ) (before : List told.Entry) → queue < last → is_producer (op_of each) ≡ true → ProducesAlone q → IsAsked (op_of each) p q → told_at p ≡ before
-    → (rest : List told.Entry) × (told_at q ≡ before ++ rest) × IsToldInPart last (command.Each each) queue rest
+    → ToldPart last (command.Each each) queue before q
 asked-part p q each last queue before less produces alone asked so_far =
     let op = op_of each in
     let rest : List told.Entry = record { op = op; reply = script.told_of asked.reply } ∷ [] in (
@@ -128,7 +94,7 @@ all-part old new each produces all begins alone missed lines number fresh has = 
   length new,
   λ queue q at.
       let beside = zip-at (IsAsked (op_of each)) old new queue q all at in
-      asked-part beside.0 q each (length new) queue (script.told missed queue lines) (within-all new queue q at) produces (all-at ProducesAlone new queue q alone at) beside.2 (has queue beside.0 beside.1),
+      asked-part beside.0 q each (length new) queue (script.told missed queue lines) (slice_get_within new queue q at) produces (all-at ProducesAlone new queue q alone at) beside.2 (has queue beside.0 beside.1),
 )
 
 upto-part : (old new : List QueuePass) (each : EachOp) (result : Result Answer AllocError) → is_producer (op_of each) ≡ true → AsksUpTo old (op_of each) result new → TellsInPart old (command.Each each) new
@@ -142,17 +108,16 @@ upto-part old new each result produces asks begins alone missed lines number fre
       let was = calls.was in
       let before = script.told missed queue lines in
       let alone_there = all-at ProducesAlone new queue q alone at in
-      elim (set-at asks.before last queue was calls.is q calls.had (ap (λ (es : List QueuePass). slice_get es queue) (sym calls.whole) ∙ at)) as (λ s. (rest : List told.Entry) × (told_at q ≡ before ++ rest) × IsToldInPart last asked queue rest) [
+      elim (set-at asks.before last queue was calls.is q calls.had (ap (λ (es : List QueuePass). slice_get es queue) (sym calls.whole) ∙ at)) as (λ s. ToldPart last asked queue before q) [
         | inl here ↦
-            elim (before-at op last old asks.before last was asks.front calls.had) as (λ s. (rest : List told.Entry) × (told_at q ≡ before ++ rest) × IsToldInPart last asked queue rest) [
+            elim (before-at op last old asks.before last was asks.front calls.had) as (λ s. ToldPart last asked queue before q) [
               | inl less ↦ absurd (omega (arith, less.0))
               | inr past ↦
-                  let part =
-                  call-part was q op asks.last.outcome before produces alone_there (subst (λ (w : QueuePass). QueueCalls was op asks.last.outcome w) (sym here.1) calls.calls) (has queue was (ap (λ k. slice_get old k) here.0 ∙ past.1)) in
-                  (part.0, part.1, stopped-part last asked queue part.0 here.0 (subst (λ (o : Option Op). (part.0 ≡ []) ⊎ IsToldOnce o part.0) (sym (op-each each queue produces)) part.2))
+                  call-part was q op asks.last.outcome asked last queue before here.0 (op-each each queue produces) produces alone_there
+                  (subst (λ (w : QueuePass). QueueCalls was op asks.last.outcome w) (sym here.1) calls.calls) (has queue was (ap (λ k. slice_get old k) here.0 ∙ past.1))
             ]
         | inr there ↦
-            elim (before-at op last old asks.before queue q asks.front there.1) as (λ s. (rest : List told.Entry) × (told_at q ≡ before ++ rest) × IsToldInPart last asked queue rest) [
+            elim (before-at op last old asks.before queue q asks.front there.1) as (λ s. ToldPart last asked queue before q) [
               | inl less ↦ asked-part less.1 q each last queue before less.0 produces alone_there less.3 (has queue less.1 less.2)
               | inr past ↦ ([], has queue q past.1 ∙ sym (append-nil before), none-part last asked queue (λ less. absurd (omega (arith, less, past.0))))
             ]
@@ -161,9 +126,7 @@ upto-part old new each result produces asks begins alone missed lines number fre
 
 pub each-part : (old new : List QueuePass) (each : EachOp) (result : Result Answer AllocError) → is_producer (op_of each) ≡ true → AsksEachOnce old (op_of each) result new → TellsInPart old (command.Each each) new
 each-part old new each (Ok answer.Limit) produces once = upto-part old new each (Ok answer.Limit) produces once
-each-part old new each (Ok answer.Taken) produces once = all-part old new each produces once
-each-part old new each (Ok answer.Refused) produces once = all-part old new each produces once
-each-part old new each (Ok answer.Missed) produces once = all-part old new each produces once
+each-part old new each (Ok a) produces once = all-part old new each produces once
 each-part old new each (Err e) produces once = upto-part old new each (Err e) produces once
 
 -- ---- the other lines
@@ -176,19 +139,11 @@ drain-part old new tells begins alone missed lines number fresh has = (
       ([], all queue q at ∙ scripts-grow.told missed queue lines (record { number = number; command = command.Drain }) ∙ sym (append-nil (script.told missed queue lines)), none-part 0 command.Drain queue (λ less. refl)),
 )
 
-pub up-part : (passes : List QueuePass) (silo : ℕ) → TellsInPart passes (command.Up silo) passes
-up-part passes silo begins alone missed lines number fresh has = (0, λ queue q at. ([], has queue q at ∙ sym (append-nil (script.told missed queue lines)), none-part 0 (command.Up silo) queue (λ less. refl)))
-
-pub down-part : (passes : List QueuePass) (silo : ℕ) → TellsInPart passes (command.Down silo) passes
-down-part passes silo begins alone missed lines number fresh has = (0, λ queue q at. ([], has queue q at ∙ sym (append-nil (script.told missed queue lines)), none-part 0 (command.Down silo) queue (λ less. refl)))
+-- one that asks for nothing
+pub silent-part : (passes : List QueuePass) (said : Command) → ((queue : ℕ) → script.op_at queue said ≡ None) → TellsInPart passes said passes
+silent-part passes said none begins alone missed lines number fresh has = (0, λ queue q at. ([], has queue q at ∙ sym (append-nil (script.told missed queue lines)), none-part 0 said queue (λ less. none queue)))
 
 -- ---- a line that was done, but isn't noted
-
-before-same : (a : Answer) (number : ℕ) (missed : List ℕ) (queue : ℕ) (lines : List Line) → HasNoLine number lines → script.told (with_missed a number missed) queue lines ≡ script.told missed queue lines
-before-same answer.Missed number missed queue lines none = misses-change-no-other.told missed number queue lines none
-before-same answer.Taken number missed queue lines none = refl
-before-same answer.Refused number missed queue lines none = refl
-before-same answer.Limit number missed queue lines none = refl
 
 with-part : (missed : List ℕ) (before : List told.Entry) (number : ℕ) (asked : Option Op) → (rest : List told.Entry) × (script.with_told missed before number asked ≡ before ++ rest) × IsToldOnce asked rest
 with-part missed before number None = ([], sym (append-nil before), refl)
@@ -208,7 +163,7 @@ done-part v w old new asked a does begins alone missed lines number fresh has = 
             ∙ scripts-grow.told now queue lines (record { number = number; command = asked })
             ∙ ap (λ (before : List told.Entry). script.with_told now before number (script.op_at queue asked)) (before-same a number missed queue lines fresh.0)
             ∙ part.1,
-        whole-part (length new) asked queue part.0 (within-all new queue q at) part.2,
+        whole-part (length new) asked queue part.0 (slice_get_within new queue q at) part.2,
       ),
 )
 

@@ -1,8 +1,7 @@
 -- One line more at the end of a script.
-use Rattle.std.proofs.Common.{◌≡◌, ◌∙◌, ap, sym, ℕ, List, [], ◌∷◌, ◌++◌}
-use Rattle.std.proofs.lemmas.List.{append-nil, append_assoc}
+use Rattle.script_runs.proofs.Prelude.{◌≡◌, ◌∙◌, ap, sym, ℕ, List, [], ◌∷◌, ◌++◌, append-nil, range_with_len}
+use Rattle.std.proofs.lemmas.List.{append_assoc}
 use Rattle.std.proofs.lemmas.List.Sums.{fold-append}
-use Rattle.std.specs.List.{range_with_len}
 use Rattle.script_runs.specs.ScriptLaws.{ScriptsGrow}
 use Rattle.script_runs.specs.ScriptReport.{command_printed, lines_after, live_after}
 use Rattle.script_runs.specs.declared.reader.line.Line.{Line}

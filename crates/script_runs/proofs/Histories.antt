@@ -1,21 +1,8 @@
 -- The histories of a run are legal, from the empty partition of its configuration.
-use Rattle.std.proofs.Common.{◌≡◌, ℕ, zero, suc, List, [], ◌∷◌, length, map, Option, Some, None, Result, Ok, Err, refl, sym, ap, subst, ◌∙◌}
-use Rattle.std.proofs.lemmas.List.{length-map}
-use Rattle.std.specs.List.{AllByRecursion, AllZip}
-use Rattle.stream_model.specs.declared.op.Op.{Op}
+use Rattle.script_runs.proofs.Prelude.{after, replied, LineView, QueuePass, places, line-turnstiles, QueueCalls, joined_passes, turnstiles, AreAtQueues, ClusterView, HasFinished, IsAtQueue, IsNew, ◌≡◌, ℕ, zero, suc, List, [], ◌∷◌, length, map, Option, Some, None, Result, Ok, Err, refl, sym, ap, subst, ◌∙◌, length-map, AllByRecursion, AllZip, empty, Reply, Op, PlainPartition, IsLegal, replay, Entry, Refusal, HistoryFull}
 use Rattle.stream_model.specs.declared.op.Op.TheVariants as op
-use Rattle.stream_model.specs.declared.plain.PlainPartition.{PlainPartition}
-use Rattle.stream_model.specs.Replies.{Reply}
 use Rattle.stream_model.specs.declared.reply.Reply.TheVariants as reply
-use Rattle.stream_model.specs.Positions.{empty}
-use Rattle.turnstile.specs.declared.history.Entry.{Entry}
-use Rattle.turnstile.specs.declared.turnstile.Refusal.{Refusal}
-use Rattle.turnstile.specs.declared.turnstile.Refusal.TheVariants.{HistoryFull}
-use Rattle.turnstile.specs.History.{IsLegal, replay}
 use Rattle.turnstile.specs.Passes.{Origin}
-use Rattle.shared_partition.specs.Partitions.{after, replied}
-use Rattle.silo_loops.specs.Lines.{LineView, QueuePass, places}
-use Rattle.silo_threads.specs.Calls.{QueueCalls, joined_passes, turnstiles}
 use Rattle.silo_loops.specs.Silos.{GoOn, SiloView}
 use Rattle.silo_loops.proofs.Going.{goes-places}
 use Rattle.silo_threads.specs.declared.ending.asking.Quiet.{Quiet}
@@ -28,8 +15,6 @@ use Rattle.silo_threads.specs.Closing.{AreTraces, IsTraceOf}
 use Rattle.silo_threads.specs.Finishing.{CameTo}
 use Rattle.silo_threads.specs.Gathering.{gathered, passes_of}
 use Rattle.silo_threads.specs.declared.clusters.config.Config.{Config}
-use Rattle.silo_threads.specs.Clusters.{AreAtQueues, ClusterView, HasFinished, IsAtQueue, IsNew}
-use Rattle.silo_threads.proofs.Standing.{line-turnstiles}
 use Rattle.script_runs.specs.declared.runs.running.ScriptEnd.{ScriptEnd}
 use Rattle.script_runs.specs.declared.runs.running.ScriptEnd.TheVariants as end
 use Rattle.script_runs.specs.Runs.{AreLegal, IsLegalHistory, LeavesLegalTraces, run_end}
@@ -65,13 +50,17 @@ gathered-at : (ps : List QueuePass) (callers : List (List QueuePass)) → turnst
 gathered-at ps [] = refl
 gathered-at ps (caller ∷ callers) = gathered-at (joined_passes ps caller) callers ∙ joined-at ps caller
 
-at-queues : (config : Config) (lines : List LineView) (ps : List QueuePass) → AreAtQueues config lines → turnstiles ps ≡ places lines → AllByRecursion (IsAtQueue config) ps
+pub at-queues : (config : Config) (lines : List LineView) (ps : List QueuePass) → AreAtQueues config lines → turnstiles ps ≡ places lines → AllByRecursion (IsAtQueue config) ps
 at-queues config lines [] at beside = tt
 at-queues config [] (p ∷ ps) at beside = absurd (cc)
 at-queues config (l ∷ lines) (p ∷ ps) at beside =
     let first : p.turnstile ≡ l.pass.turnstile = cc in
     let rest : turnstiles ps ≡ places lines = cc in
     ((at.0.0, first ∙ at.0.1, at.0.2), at-queues config lines ps at.1 rest)
+
+pub beside-length : (ps : List QueuePass) (lines : List LineView) → turnstiles ps ≡ places lines → length ps ≡ length lines
+beside-length ps lines same =
+    sym (length-map ps (λ (p : QueuePass). p.turnstile)) ∙ ap (λ ts. length ts) same ∙ length-map lines (λ (l : LineView). l.pass.turnstile)
 
 -- ---- the histories
 
@@ -106,23 +95,15 @@ module _ {H : Type 0} (entries : H → List (Entry Op Reply)) where
       came-at asked (gathered (passes_of lines) (now ∷ [])) last came ∙ gathered-at (passes_of lines) (now ∷ []) ∙ line-turnstiles lines
       ∙ goes-places w.operator.lines lines on ∙ goes-places c.operator.lines w.operator.lines first in
       let all = all-legal config last (map entries traces.histories.items) traces.partitions.items (at-queues config c.operator.lines last new.opened.at same) are in
-      let many : length last ≡ length c.operator.lines =
-      sym (length-map last (λ (p : QueuePass). p.turnstile)) ∙ ap (λ ts. length ts) same ∙ length-map c.operator.lines (λ (l : LineView). l.pass.turnstile) in
       record {
-        count = sym (length-map traces.histories.items entries) ∙ all.0 ∙ many ∙ new.opened.queues;
+        count = sym (length-map traces.histories.items entries) ∙ all.0 ∙ beside-length last c.operator.lines same ∙ new.opened.queues;
         each = all.1;
       }
 
   pub run-legal : (back : List SiloView) (config : Config) (c w : ClusterView) (caller now : List QueuePass) (answer : Finished H) (how : ScriptEnd) → IsNew config c caller → GoOn c.operator.lines w.operator.lines → HasFinished entries w (now ∷ []) back answer → LeavesLegalTraces entries config (run_end answer how)
   run-legal back config c w caller now (finished.Report text traces) end.Done new first fin =
       traces-legal config c w caller now fin.lines fin.finished.asked fin.finished.last traces new first fin.on fin.finished.came_to fin.finished.answers.2
-  run-legal back config c w caller now (finished.Report text traces) end.Limit new first fin =
-      traces-legal config c w caller now fin.lines fin.finished.asked fin.finished.last traces new first fin.on fin.finished.came_to fin.finished.answers.2
-  run-legal back config c w caller now (finished.Report text traces) end.NotQuiet new first fin =
-      traces-legal config c w caller now fin.lines fin.finished.asked fin.finished.last traces new first fin.on fin.finished.came_to fin.finished.answers.2
-  run-legal back config c w caller now (finished.Report text traces) end.RoundLimit new first fin =
-      traces-legal config c w caller now fin.lines fin.finished.asked fin.finished.last traces new first fin.on fin.finished.came_to fin.finished.answers.2
-  run-legal back config c w caller now (finished.Report text traces) end.Halted new first fin =
+  run-legal back config c w caller now (finished.Report text traces) how new first fin =
       traces-legal config c w caller now fin.lines fin.finished.asked fin.finished.last traces new first fin.on fin.finished.came_to fin.finished.answers.2
   run-legal back config c w caller now (finished.NotQuiet queue why traces) how new first fin =
       traces-legal config c w caller now fin.lines fin.finished.asked fin.finished.last traces new first fin.on fin.finished.came_to fin.finished.answers.2

@@ -1,8 +1,6 @@
 -- A line that is joined of pieces is made of them.
-use Rattle.std.specs.Prelude.{◌≡◌, ℕ, List, [], ◌∷◌, ◌++◌, map, codes, refl}
-use Rattle.std.specs.List.{AllByRecursion, flat_map}
-use Rattle.std.proofs.Common.{sym, ap, append_assoc}
-use Rattle.std.proofs.lemmas.List.{append-nil}
+use Rattle.script_runs.proofs.Prelude.{sym, ap, append_assoc, append-nil, AllByRecursion, flat_map, codes}
+use Rattle.std.specs.Prelude.{◌≡◌, ℕ, List, [], ◌∷◌, ◌++◌, map, refl}
 use Rattle.stream_script.specs.Pieces.{Piece, Word, Text, spelling, IsPiece, AreSpaces, IsLineOf}
 use Rattle.script_runs.specs.OpLine.{joined, text_behind}
 

@@ -26,3 +26,4 @@ pub mod ToldRecords
 pub mod ToldReplies
 pub mod ToldSteps
 pub mod WorkedRows
+pub mod Prelude

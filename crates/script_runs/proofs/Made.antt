@@ -1,25 +1,8 @@
 -- The records that rules make of events: their grain, what binds them, and the event that they are owed.
-use Rattle.std.proofs.Common.{◌≡◌, ◌∙◌, ap, refl, ℕ, Bool, true, false, ◌&&◌, ◌||◌, not, List, [], ◌∷◌, Some, is_some}
-use Rattle.std.proofs.lemmas.Bool.{and_from, and_parts, cond_both, or_right, false≢true}
-use Rattle.std.specs.List.{AllByRecursion, flat_map, list_any}
-use Rattle.stream_ident.specs.declared.event.Event.{Event}
-use Rattle.stream_ident.specs.declared.ident.StreamId.{StreamId}
-use Rattle.stream_ident.specs.declared.ident.SubName.{SubName}
+use Rattle.script_runs.proofs.Prelude.{◌≡◌, ◌∙◌, ap, refl, ℕ, Bool, true, false, ◌&&◌, ◌||◌, not, List, [], ◌∷◌, Some, is_some, and_from, and_parts, cond_both, or_right, false≢true, AllByRecursion, flat_map, list_any, All-append, same_stream-refl, batch_token, is_owed, same_name, same_sub, token_lt, or_else, value_at, Event, StreamId, SubName, Rule, RulesDiffer, bound_by_rules, new_subscription, all_implied, implied, Subscription}
 use Rattle.stream_ident.specs.declared.ident.SubName.TheVariants.{Implicit}
-use Rattle.stream_ident.specs.declared.rule.Rule.{Rule}
-use Rattle.stream_ident.specs.Event.{batch_token, is_owed}
-use Rattle.stream_ident.specs.Name.{same_name}
-use Rattle.stream_ident.specs.SubName.{same_sub}
-use Rattle.stream_ident.specs.Token.{token_lt}
-use Rattle.stream_ident.specs.Words.{or_else, value_at}
-use Rattle.stream_ident.proofs.SameValues.{same_stream-refl}
-use Rattle.stream_model.specs.declared.plain.Subscription.{Subscription}
 use Rattle.stream_model.specs.NewestFirst.{Binding}
-use Rattle.stream_model.specs.Positions.{new_subscription}
-use Rattle.stream_model.specs.Pulling.{all_implied, implied}
-use Rattle.stream_ident.proofs.EachOf.{All-append, All-weaken}
 use Rattle.stream_model.proofs.Values.{append-at}
-use Rattle.stream_laws.proofs.Invariant.{RulesDiffer, bound_by_rules}
 use Rattle.stream_laws.proofs.RuleLemmas.{IsFirstRule, RulesDiffer-first, implied-owed, or_else-left, or_else-some}
 
 -- a record that the rules make of these events
@@ -32,27 +15,17 @@ pub record IsMadeOf (rules : List Rule) (position : ℕ) (events : List Event) (
   pub bound : bound_by_rules (Implicit kind stream) rules ≡ Some (record { stream = stream; start = batch_token from })
   pub owed : list_any (λ event. is_owed stream (batch_token from) event) events ≡ true
 
--- of more events
-IsMadeOf-more : (rules : List Rule) (position : ℕ) (events more : List Event) → ((passes : Event → Bool) → list_any passes events ≡ true → list_any passes more ≡ true)
-    → (entry : SubName × Subscription) → IsMadeOf rules position events entry → IsMadeOf rules position more entry
-IsMadeOf-more rules position events more grows entry made =
-    record {
-      kind = made.kind;
-      stream = made.stream;
-      from = made.from;
-      name = made.name;
-      value = made.value;
-      bound = made.bound;
-      owed = grows (λ event. is_owed made.stream (batch_token made.from) event) made.owed;
-    }
+-- what the event has, one of the log has
+abbrev IsWithin : Event → List Event → Type 0
+IsWithin event log = (passes : Event → Bool) → passes event ≡ true → list_any passes log ≡ true
 
-any-first : (b c : Bool) → (b || false) ≡ true → (b || c) ≡ true
-any-first true c any = refl
-any-first false c any = absurd (false≢true any)
+-- what one of the events has, one of the log has
+abbrev pub AreWithin : List Event → List Event → Type 0
+AreWithin events log = (passes : Event → Bool) → list_any passes events ≡ true → list_any passes log ≡ true
 
-made-by-rule : (rules : List Rule) (position : ℕ) (event : Event) (rule : Rule) → IsFirstRule rules rule → AllByRecursion (IsMadeOf rules position (event ∷ [])) (implied position event rule)
-made-by-rule rules position event rule first =
-    cond_both (same_name event.stream.namespace rule.namespace && not (token_lt event.token (batch_token rule.from))) _ _ (AllByRecursion (IsMadeOf rules position (event ∷ [])))
+made-by-rule : (rules : List Rule) (position : ℕ) (log : List Event) (event : Event) (rule : Rule) → IsWithin event log → IsFirstRule rules rule → AllByRecursion (IsMadeOf rules position log) (implied position event rule)
+made-by-rule rules position log event rule within first =
+    cond_both (same_name event.stream.namespace rule.namespace && not (token_lt event.token (batch_token rule.from))) _ _ (AllByRecursion (IsMadeOf rules position log))
     (λ makes.
     let parts = and_parts (same_name event.stream.namespace rule.namespace) (not (token_lt event.token (batch_token rule.from))) makes in
     let here : is_owed event.stream (batch_token rule.from) event ≡ true = and_from _ _ (same_stream-refl event.stream) parts.1 in (
@@ -63,32 +36,25 @@ made-by-rule rules position event rule first =
         name = refl;
         value = refl;
         bound = first event.stream parts.0;
-        owed = ap (λ b. b || false) here;
+        owed = within (λ e. is_owed event.stream (batch_token rule.from) e) here;
       },
       tt,
     ))
     (λ _. tt)
 
-made-by-rules : (rules : List Rule) (position : ℕ) (event : Event) (some : List Rule) → AllByRecursion (IsFirstRule rules) some → AllByRecursion (IsMadeOf rules position (event ∷ [])) (flat_map (implied position event) some)
-made-by-rules rules position event [] first = tt
-made-by-rules rules position event (rule ∷ some) first =
-    All-append (IsMadeOf rules position (event ∷ [])) (implied position event rule) (flat_map (implied position event) some)
-    (made-by-rule rules position event rule first.0) (made-by-rules rules position event some first.1)
+made-by-rules : (rules : List Rule) (position : ℕ) (log : List Event) (event : Event) (some : List Rule) → IsWithin event log → AllByRecursion (IsFirstRule rules) some → AllByRecursion (IsMadeOf rules position log) (flat_map (implied position event) some)
+made-by-rules rules position log event [] within first = tt
+made-by-rules rules position log event (rule ∷ some) within first =
+    All-append (IsMadeOf rules position log) (implied position event rule) (flat_map (implied position event) some)
+    (made-by-rule rules position log event rule within first.0) (made-by-rules rules position log event some within first.1)
 
-made-of-all : (rules : List Rule) (position : ℕ) (events : List Event) → AllByRecursion (IsFirstRule rules) rules → AllByRecursion (IsMadeOf rules position events) (all_implied rules position events)
-made-of-all rules position [] first = tt
-made-of-all rules position (event ∷ events) first =
-    All-append (IsMadeOf rules position (event ∷ events)) (flat_map (implied position event) rules) (all_implied rules position events)
-    (All-weaken (IsMadeOf rules position (event ∷ [])) (IsMadeOf rules position (event ∷ events))
-    (IsMadeOf-more rules position (event ∷ []) (event ∷ events) (λ passes any. any-first (passes event) (list_any passes events) any))
-    (flat_map (implied position event) rules) (made-by-rules rules position event rules first))
-    (All-weaken (IsMadeOf rules position events) (IsMadeOf rules position (event ∷ events))
-    (IsMadeOf-more rules position events (event ∷ events) (λ passes any. or_right (passes event) (list_any passes events) any))
-    (all_implied rules position events) (made-of-all rules position events first))
-
--- all that rules make is such
-pub all-made-of : (rules : List Rule) (position : ℕ) (events : List Event) → RulesDiffer rules → AllByRecursion (IsMadeOf rules position events) (all_implied rules position events)
-all-made-of rules position events differ = made-of-all rules position events (RulesDiffer-first rules differ)
+-- all that rules make of events within a log is such
+pub all-made-of : (rules : List Rule) (position : ℕ) (log events : List Event) → AreWithin events log → RulesDiffer rules → AllByRecursion (IsMadeOf rules position log) (all_implied rules position events)
+all-made-of rules position log [] within differ = tt
+all-made-of rules position log (event ∷ events) within differ =
+    All-append (IsMadeOf rules position log) (flat_map (implied position event) rules) (all_implied rules position events)
+    (made-by-rules rules position log event rules (λ passes is. within passes (ap (λ b. b || list_any passes events) is)) (RulesDiffer-first rules differ))
+    (all-made-of rules position log events (λ passes any. within passes (or_right (passes event) (list_any passes events) any)) differ)
 
 -- a name that the rules bind, and that is owed one of the events, is made
 pub made-where-owed : (s : SubName) (rules : List Rule) (position : ℕ) (b : Binding) (events : List Event) → bound_by_rules s rules ≡ Some b

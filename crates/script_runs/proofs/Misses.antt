@@ -1,13 +1,7 @@
 -- A script without a line is told and printed the same whether that line is refused or not.
-use Rattle.std.proofs.Common.{◌≡◌, ◌∙◌, ap, refl, ℕ, ◌==◌, ◌||◌, false, List, [], ◌∷◌, ◌++◌, fold, Option, Some, None}
-use Rattle.stream_model.specs.declared.op.Op.{Op}
-use Rattle.stream_model.specs.declared.op.Op.TheVariants.{Subscribe}
-use Rattle.stream_model.specs.declared.op.Start.TheVariants.{Latest, At}
+use Rattle.script_runs.proofs.Prelude.{◌≡◌, ◌∙◌, ap, refl, ℕ, ◌==◌, ◌||◌, false, List, [], ◌∷◌, ◌++◌, fold, Option, Some, None, All-append, Op, Subscribe, Latest, At, op_of, Command}
 use Rattle.stream_model.specs.History.{Entry}
-use Rattle.stream_ident.proofs.EachOf.{All-append}
-use Rattle.stream_script.specs.declared.parser.command.Command.{Command}
 use Rattle.stream_script.specs.declared.parser.command.Command.TheVariants as command
-use Rattle.stream_script.specs.Forms.{op_of}
 use Rattle.script_runs.specs.ScriptLaws.{HasNoLine, MissesChangeNoOther}
 use Rattle.script_runs.specs.ScriptReport.{command_printed, lines_after, op_printed, reply_lines}
 use Rattle.script_runs.specs.declared.reader.line.Line.{Line}
@@ -32,13 +26,10 @@ module _ (missed : List ℕ) (number : ℕ) where
       ap (λ entries. fold (then_told (number ∷ missed) queue) entries script) (with-same before line.number (op_at queue line.command) none.0)
       ∙ fold-same queue (then_told missed queue before line) script none.1
 
-  told-same : (queue : ℕ) (script : List Line) → HasNoLine number script → told (number ∷ missed) queue script ≡ told missed queue script
-  told-same queue script none = fold-same queue [] script none
-
   op-same : (before : List Line) (line queue : ℕ) (op : Op) → HasNoLine number before → (number == line) ≡ false → op_printed (number ∷ missed) before line queue op ≡ op_printed missed before line queue op
   op-same before line queue op none other =
       ap (reply_lines line)
-      (ap (λ entries. told_reply (number ∷ missed) entries line op) (told-same queue before none) ∙ reply-same (told missed queue before) line op other)
+      (ap (λ entries. told_reply (number ∷ missed) entries line op) (fold-same queue [] before none) ∙ reply-same (told missed queue before) line op other)
 
   command-same : (silos : ℕ) (before : List Line) (line : ℕ) (asked : Command) → HasNoLine number before → (number == line) ≡ false
       → command_printed (number ∷ missed) silos before line asked ≡ command_printed missed silos before line asked
@@ -56,6 +47,6 @@ module _ (missed : List ℕ) (number : ℕ) where
 pub misses-change-no-other : MissesChangeNoOther
 misses-change-no-other =
     record {
-      told = λ missed number queue script none. told-same missed number queue script none;
+      told = λ missed number queue script none. fold-same missed number queue [] script none;
       printed = λ missed number silos script none. lines-same missed number silos [] script tt none;
     }

@@ -1,23 +1,14 @@
 -- The pieces of an operation: each is a word or a text, and where the grammar has the operation's command, they
 -- are the command's.
-use Rattle.std.specs.Prelude.{◌≡◌, ℕ, ◌^◌, ◌<◌, Bool, true, not, nat_lt, List, [], ◌∷◌, length, map, None, Some, codes, refl}
+use Rattle.script_runs.proofs.Prelude.{arith, length-append, inr, ltb-true, AllByRecursion, list_all, ◌^◌, codes, token_text, IsToken, GrainId, StreamId, SubName, Token, Op, IsStream, IsGrain, IsSub, IsQueue, IsSpelled}
+use Rattle.std.specs.Prelude.{◌≡◌, ℕ, ◌<◌, Bool, true, not, nat_lt, List, [], ◌∷◌, length, map, None, Some, refl}
 use Rattle.std.specs.Char.{is_ascii_digit}
 use Rattle.std.specs.Fmt.{decimal}
-use Rattle.std.specs.List.{AllByRecursion, list_all}
-use Rattle.std.proofs.Common.{arith, length-append, inr}
-use Rattle.std.proofs.lemmas.Bool.{ltb-true}
 use Rattle.std.proofs.lemmas.Bool.Decides.{nat_tests}
 use Rattle.std.proofs.lemmas.Fmt.{decimal_nonempty}
 use Rattle.stream_ident.specs.Alphabet.{is_name_byte, IsName}
-use Rattle.stream_ident.specs.declared.ident.GrainId.{GrainId}
-use Rattle.stream_ident.specs.declared.ident.StreamId.{StreamId}
-use Rattle.stream_ident.specs.declared.ident.SubName.{SubName}
-use Rattle.stream_ident.specs.declared.token.Token.{Token}
-use Rattle.stream_ident.specs.Token.{token_text, IsToken}
-use Rattle.stream_model.specs.declared.op.Op.{Op}
 use Rattle.stream_model.specs.declared.op.Op.TheVariants as op
 use Rattle.stream_model.specs.declared.op.Start.TheVariants as start
-use Rattle.stream_script.specs.Grammar.{IsStream, IsGrain, IsSub, IsQueue, IsSpelled}
 use Rattle.stream_script.specs.Pieces.{Piece, Word, Text, ends_word, IsPiece}
 use Rattle.stream_script.specs.Spelling.{stream_text, grain_text, name_text, sub_text}
 use Rattle.stream_script.proofs.SubLemmas.{list_all-both, decimal_all, name_all, stream_text_all, grain_text_all, name_text_all}

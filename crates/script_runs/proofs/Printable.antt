@@ -1,15 +1,14 @@
 -- A line that is read as a command has printable bytes alone.
-use Rattle.std.specs.Prelude.{◌≡◌, ℕ, Bool, true, false, List, Result, Err, cond, refl}
-use Rattle.std.specs.List.{list_all}
+use Rattle.script_runs.proofs.Prelude.{list_all, cond, is_skipped, lexed, parsed_of, Command}
+use Rattle.std.specs.Prelude.{◌≡◌, ℕ, Bool, true, false, List, Result, Err, refl}
 use Rattle.stream_ident.specs.Alphabet.{is_printable}
-use Rattle.stream_script.specs.declared.parser.command.Command.{Command}
 use Rattle.stream_script.specs.declared.parser.command.FaultKind.{FaultKind}
 use Rattle.stream_script.specs.declared.parser.command.FaultKind.TheVariants as kind
 use Rattle.stream_script.specs.declared.parser.command.Mode.{Mode}
 use Rattle.stream_script.specs.declared.parser.command.Mode.TheVariants as mode
 use Rattle.stream_script.specs.declared.parser.command.Parsed.TheVariants as parsed
 use Rattle.stream_script.specs.Lexer.{pieces_of}
-use Rattle.stream_script.specs.Reading.{is_skipped, lexed, parsed_of, reading}
+use Rattle.stream_script.specs.Reading.{reading}
 use Rattle.script_runs.specs.OpLine.{op_line, op_command, LinesArePrintable}
 use Rattle.script_runs.proofs.Again.{reads_again}
 

@@ -1,18 +1,9 @@
 -- The calls of a history, done once more and printed.
-use Rattle.std.proofs.Common.{◌≡◌, ℕ, zero, suc, ◌+◌, ◌<◌, List, [], ◌∷◌, ◌++◌, length, get_or, take, drop, add-one, sym, ap, ◌∙◌, subst, arith, append_assoc}
+use Rattle.script_runs.proofs.Prelude.{after, replied, ◌≡◌, ℕ, zero, suc, ◌+◌, ◌<◌, List, [], ◌∷◌, ◌++◌, length, get_or, take, drop, add-one, sym, ap, ◌∙◌, subst, arith, append_assoc, append-nil, flat_map, Reply, Op, PlainPartition, IsLegal, entry, answered, Entry}
 use Rattle.std.proofs.Math.Seq.{take-length}
 use Rattle.std.proofs.lemmas.Grind.{flat_map-append}
-use Rattle.std.proofs.lemmas.List.{append-nil}
-use Rattle.std.specs.List.{flat_map}
-use Rattle.stream_model.specs.declared.op.Op.{Op}
-use Rattle.stream_model.specs.declared.plain.PlainPartition.{PlainPartition}
-use Rattle.stream_model.specs.Replies.{Reply}
 use Rattle.turnstile.specs.declared.asked.Asked.{Asked}
-use Rattle.turnstile.specs.declared.history.Entry.{Entry}
-use Rattle.turnstile.specs.History.{IsLegal, entry}
-use Rattle.turnstile.specs.Recorded.{answered}
 use Rattle.turnstile.proofs.Answering.{length-answered}
-use Rattle.shared_partition.specs.Partitions.{after, replied}
 use Rattle.script_runs.specs.declared.traces.trace.Calls.{Calls}
 use Rattle.script_runs.specs.Traces.{entry_text, shown_text, traces_from}
 

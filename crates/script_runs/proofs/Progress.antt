@@ -1,31 +1,11 @@
 -- How far a script is done.
-use Rattle.std.proofs.Common.{◌≡◌, ◌≢◌, ℕ, zero, suc, ◌+◌, ◌<◌, ◌≤◌, inl, inr, true, false, ◌||◌, Contains, List, [], ◌∷◌, ◌++◌, map, Result, Ok, Err, OnErr, OnOk, length, get_or, refl, sym, ap, subst, ◌∙◌, arith, append_assoc, ◌==◌}
-use Rattle.std.proofs.lemmas.Bool.{ne_eqb}
-use Rattle.std.proofs.lemmas.List.{append-nil}
-use Rattle.std.proofs.lemmas.List.Kept.{AllPairs-cons}
+use Rattle.script_runs.proofs.Prelude.{owns-foreign, QueuePass, asks-foreign, gone-refl, gone-trans, all-at, zip-refl, zip-trans, met-earlier, op-refl, IsUnused, turnstiles, ClusterView, is_fixed, HasGoneOn, LooksQuiet, OperatorGoesOn, ◌≡◌, ℕ, suc, ◌+◌, ◌<◌, ◌≤◌, inl, inr, true, false, ◌||◌, Contains, List, [], ◌∷◌, ◌++◌, Result, Ok, Err, OnErr, length, get_or, refl, sym, ap, subst, ◌∙◌, arith, append_assoc, ◌==◌, ne_eqb, append-nil, AllByRecursion, AllZip, range_with_len, AllocError, All-push, All-weaken, is_producer, Op, op_of, Command, numbers_of, Refusal, HistoryFull}
+use Rattle.std.proofs.lemmas.List.FromFn.{get_or-range_with_len, length-range_with_len}
 use Rattle.std.proofs.lemmas.List.Sums.{fold-append}
-use Rattle.std.specs.List.{AllByRecursion, AllZip, range_with_len}
 use Rattle.queue_balancer.specs.Balance.{HasNoDoubles}
-use Rattle.std.specs.declared.alloc.AllocError.{AllocError}
-use Rattle.stream_model.specs.declared.op.Op.{Op}
-use Rattle.stream_model.specs.Producers.{is_producer}
-use Rattle.turnstile.specs.declared.turnstile.Refusal.{Refusal}
-use Rattle.turnstile.specs.declared.turnstile.Refusal.TheVariants.{HistoryFull}
-use Rattle.turnstile.specs.Calls.{numbers_of}
-use Rattle.silo_loops.specs.Lines.{QueuePass}
-use Rattle.silo_loops.proofs.Owning.{owns-foreign}
-use Rattle.silo_threads.specs.Calls.{IsUnused, turnstiles}
 use Rattle.silo_threads.specs.declared.ending.asking.Quiet.{Quiet}
-use Rattle.silo_threads.proofs.Rows.{all-at, zip-refl, zip-trans}
-use Rattle.stream_ident.proofs.EachOf.{All-push, All-weaken}
-use Rattle.silo_threads.specs.Operators.{OperatorGoesOn}
-use Rattle.silo_threads.specs.Clusters.{ClusterView, is_fixed}
-use Rattle.silo_threads.specs.Draining.{HasGoneOn, LooksQuiet}
 use Rattle.silo_threads.proofs.Changing.{op-trans}
-use Rattle.silo_threads.proofs.Standing.{met-earlier, op-refl}
-use Rattle.stream_script.specs.declared.parser.command.Command.{Command}
 use Rattle.stream_script.specs.declared.parser.command.Command.TheVariants as command
-use Rattle.stream_script.specs.Forms.{op_of}
 use Rattle.script_runs.specs.declared.reader.line.Line.{Line}
 use Rattle.script_runs.specs.declared.reader.script_line.ScriptLine.{ScriptLine}
 use Rattle.script_runs.specs.declared.reader.script_line.ScriptLine.TheVariants as printed
@@ -36,7 +16,6 @@ use Rattle.script_runs.proofs.Growing.{scripts-grow}
 use Rattle.script_runs.proofs.Misses.{misses-change-no-other}
 use Rattle.script_runs.specs.declared.producer.answer.Answer.{Answer}
 use Rattle.script_runs.specs.declared.producer.answer.Answer.TheVariants as answer
-use Rattle.silo_threads.proofs.GoneOn.{asks-foreign, gone-refl, gone-trans}
 use Rattle.script_runs.specs.Telling.{AloneProduces, AsksLast, BeginsEmpty, HasTold, IsNewNumber, ProducesAlone, Tells, printed_lines, told_at, with_missed}
 use Rattle.script_runs.proofs.Seen.{alone-as, alone-front, none-told}
 use Rattle.script_runs.specs.Scripts.{IsScript, RisesFrom}
@@ -45,6 +24,7 @@ use Rattle.script_runs.specs.declared.runs.line.Stop.TheVariants as stop
 use Rattle.script_runs.specs.Lines.{DoesLine, HasToldFront, MeetsLimit, StaysOpen, StopsBy, TellsInPart, WaitsAWhile, WaitsInVain, WaitsUntil, next_command}
 use Rattle.script_runs.specs.Runs.{DoesAll, IsPrinted, IsUntouched, StopsFront, missed_in, with_printed}
 use Rattle.script_runs.proofs.Fronts.{drain-part, none-left}
+use Rattle.script_runs.proofs.Placing.{all-from}
 
 -- ---- passes that have seen more
 
@@ -56,10 +36,7 @@ back-one : (p q : QueuePass) → HasGoneOn p q → ProducesAlone q → ProducesA
 back-one p q on alone = (alone-front (numbers_of p) p.seen on.more (subst (λ es. AllByRecursion (λ e. is_producer e.op ≡ true → Contains (numbers_of p) e.number) es) on.seen (alone-as p q on alone))).0
 
 pub alone-back : (ps qs : List QueuePass) → AllZip HasGoneOn ps qs → AloneProduces qs → AloneProduces ps
-alone-back [] [] on alone = tt
-alone-back [] (q ∷ qs) on alone = absurd on
-alone-back (p ∷ ps) [] on alone = absurd on
-alone-back (p ∷ ps) (q ∷ qs) on alone = (back-one p q on.0 alone.0, alone-back ps qs on.1 alone.1)
+alone-back ps qs on alone = all-from HasGoneOn ProducesAlone ps qs on (λ k p q had at is. back-one p q is (all-at ProducesAlone qs k q alone at))
 
 begins-one : (p q : QueuePass) → HasGoneOn p q → BeginsEmpty p → BeginsEmpty q
 begins-one p q on begins = (begins.0, ap (λ (w : QueuePass). w.turnstile) on.only ∙ begins.1, begins.2)
@@ -97,23 +74,18 @@ fresh-number number last missed lines above below up = (no-line number last line
 
 missed-up : (a : Answer) (number last : ℕ) (missed : List ℕ) → last < number → AreUpTo last missed → AreUpTo number (with_missed a number missed)
 missed-up answer.Missed number last missed above up = (omega arith, All-weaken (λ (m : ℕ). m ≤ last) (λ (m : ℕ). m ≤ number) (λ m less. omega (arith, above, less)) missed up)
-missed-up answer.Taken number last missed above up = All-weaken (λ (m : ℕ). m ≤ last) (λ (m : ℕ). m ≤ number) (λ m less. omega (arith, above, less)) missed up
-missed-up answer.Refused number last missed above up = All-weaken (λ (m : ℕ). m ≤ last) (λ (m : ℕ). m ≤ number) (λ m less. omega (arith, above, less)) missed up
-missed-up answer.Limit number last missed above up = All-weaken (λ (m : ℕ). m ≤ last) (λ (m : ℕ). m ≤ number) (λ m less. omega (arith, above, less)) missed up
+missed-up a number last missed above up = All-weaken (λ (m : ℕ). m ≤ last) (λ (m : ℕ). m ≤ number) (λ m less. omega (arith, above, less)) missed up
 
 -- ---- what a line more prints
 
 missed-more : (a : Answer) (number : ℕ) (found : List ScriptLine) → missed_in (found ++ printed_lines a number) ≡ with_missed a number (missed_in found)
 missed-more answer.Missed number found = fold-append with_printed [] found (printed.Miss number ∷ [])
 missed-more answer.Refused number found = fold-append with_printed [] found (printed.Refused number ∷ [])
-missed-more answer.Taken number found = ap (λ (lines : List ScriptLine). missed_in lines) (append-nil found)
-missed-more answer.Limit number found = ap (λ (lines : List ScriptLine). missed_in lines) (append-nil found)
+missed-more a number found = ap (λ (lines : List ScriptLine). missed_in lines) (append-nil found)
 
 before-printed : (a : Answer) (number : ℕ) (missed : List ℕ) (silos : ℕ) (lines : List Line) → HasNoLine number lines → script_lines (with_missed a number missed) silos lines ≡ script_lines missed silos lines
 before-printed answer.Missed number missed silos lines none = misses-change-no-other.printed missed number silos lines none
-before-printed answer.Taken number missed silos lines none = refl
-before-printed answer.Refused number missed silos lines none = refl
-before-printed answer.Limit number missed silos lines none = refl
+before-printed a number missed silos lines none = refl
 
 -- ---- the lines that are left
 
@@ -142,15 +114,11 @@ pub record Progress (lines : List Line) (v : ClusterView) (old : List QueuePass)
   pub told : (silos : ℕ) → IsUntouched silos v old → AloneProduces now → HasTold (missed_in found) done now
   pub printed : (silos : ℕ) → IsUntouched silos v old → AloneProduces now → IsPrinted silos done found
 
-range-from : (from many k d : ℕ) → k < length (range_with_len from many) → from ≤ get_or (range_with_len from many) k d
-range-from from zero k d within = absurd (omega (arith, within))
-range-from from (suc many) zero d within = omega arith
-range-from from (suc many) (suc k) d within = omega (arith, range-from (from + 1) many k d (omega (arith, within)))
-
-range-once : (from many : ℕ) → HasNoDoubles (range_with_len from many)
-range-once from zero = λ i j d before within. absurd (omega (arith, within))
-range-once from (suc many) =
-    AllPairs-cons (λ (one other : ℕ). one ≢ other) from (range_with_len (from + 1) many) (λ k d within same. omega (arith, range-from (from + 1) many k d within, same)) (range-once (from + 1) many)
+range-once : (many : ℕ) → HasNoDoubles (range_with_len 0 many)
+range-once many i j d before within same =
+    let there : j < many = subst (λ m. j < m) (length-range_with_len 0 many) within in
+    let here : i < many = omega (arith, before, there) in
+    omega (arith, get_or-range_with_len 0 many i d here, get_or-range_with_len 0 many j d there, same, before)
 
 pub begins : (queues : ℕ) (lines : List Line) (v : ClusterView) (old : List QueuePass) → IsScript queues lines → Progress lines v old [] [] v old
 begins queues lines v old is =
@@ -165,7 +133,7 @@ begins queues lines v old is =
       at = refl;
       cluster = op-refl v.operator;
       stays = λ free. (free, refl);
-      live = λ silos untouched. (untouched.live, subst (λ (live : List ℕ). HasNoDoubles live) (sym untouched.live) (range-once 0 silos));
+      live = λ silos untouched. (untouched.live, subst (λ (live : List ℕ). HasNoDoubles live) (sym untouched.live) (range-once silos));
       told = λ silos untouched alone queue p at. unused-told p (all-at IsUnused old queue p untouched.unused at) (all-at ProducesAlone old queue p alone at);
       printed = λ silos untouched alone. refl;
     }
@@ -314,13 +282,3 @@ wait-stopped why lines v old done found w now u new far all on tells stops =
 pub on-err : {A E X : Type 0} → (r : Result A E) → X → OnErr r X
 on-err (Ok a) x = tt
 on-err (Err e) x = x
-
-pub on-ok : {A E X Y : Type 0} → (r : Result A E) → (X → Y) → OnOk r X → OnOk r Y
-on-ok (Ok a) f x = f x
-on-ok (Err e) f x = tt
-
-pub map-same : {A : Type 0} → (xs : List A) → map (λ (x : A). x) xs ≡ xs
-map-same [] = refl
-map-same (x ∷ xs) = ap (λ ys. x ∷ ys) (map-same xs)
-
--- ---- what a call of the next line asks for

@@ -1,46 +1,20 @@
 -- The report of a quiet partition is what its history tells.
-use Rattle.std.proofs.Common.{◌≡◌, ◌∙◌, ap, sym, subst, refl, ℕ, suc, nat_lt, Bool, true, false, ◌&&◌, ◌||◌, not, length, arith, List, [], ◌∷◌, ◌++◌, map, filter, Option, Some, None, is_some, option_map, if◌then◌else◌}
-use Rattle.std.proofs.lemmas.Bool.{false≢true, lt-ltb, not-true, or_parts}
-use Rattle.std.proofs.lemmas.List.{append-nil}
-use Rattle.std.proofs.lemmas.List.Elements.{filter-append, filter_agree}
-use Rattle.std.specs.List.{AllByRecursion, flat_map, list_any}
+use Rattle.script_runs.proofs.Prelude.{◌≡◌, ◌≢◌, ◌∙◌, ap, sym, subst, refl, ℕ, suc, nat_lt, Bool, true, false, ◌&&◌, ◌||◌, not, length, arith, List, [], ◌∷◌, ◌++◌, map, filter, Option, Some, None, is_some, option_map, if◌then◌else◌, false≢true, lt-ltb, not-true, or_parts, append-nil, filter-append, filter_agree, same_Some, AllByRecursion, flat_map, list_any, handled_of, is_named_before, summaries_in_order, summaries_of, summary_of, SubSummary, same_sub-equal, sub_equality, batch_token, is_owed, same_sub, sub_lt, value_at, Event, StreamId, SubName, Rule, RulesDiffer, bound_by_rules, kept-step, records_are_open-from, fits-stands, Binding, binding_of, is_closed, owed_events, published_events, owed_of, sub_at, all_implied, subs_with, Stands, Limits, PlainPartition, Subscription, closed_text, open_text, queue_report, summary_text}
 use Rattle.std.specs.List.Sorted.{ties}
 use Rattle.std.specs.Option.{option_to_list}
-use Rattle.stream_ident.specs.declared.event.Event.{Event}
-use Rattle.stream_ident.specs.declared.ident.StreamId.{StreamId}
-use Rattle.stream_ident.specs.declared.ident.SubName.{SubName}
 use Rattle.stream_ident.specs.declared.ident.SubName.TheVariants as name
-use Rattle.stream_ident.specs.declared.rule.Rule.{Rule}
-use Rattle.stream_ident.specs.Event.{batch_token, is_owed}
-use Rattle.stream_ident.specs.SubName.{same_sub, sub_lt}
-use Rattle.stream_ident.specs.Words.{value_at}
 use Rattle.stream_ident.proofs.NameOrders.{sub_order}
-use Rattle.stream_ident.proofs.SameValues.{same_sub-equal, sub_equality}
-use Rattle.stream_model.specs.declared.limits.Limits.{Limits}
-use Rattle.stream_model.specs.declared.plain.PlainPartition.{PlainPartition}
-use Rattle.stream_model.specs.declared.plain.Subscription.{Subscription}
 use Rattle.stream_model.specs.declared.reply.Reply.TheVariants.{IsQuiet}
-use Rattle.stream_model.specs.History.{Binding, Entry, binding_of, is_closed, owed_events, published_events}
+use Rattle.stream_model.specs.History.{Entry}
 use Rattle.stream_model.specs.Looks.{quiet}
-use Rattle.stream_model.specs.NewestFirst.{owed_of}
-use Rattle.stream_model.specs.Positions.{sub_at}
-use Rattle.stream_model.specs.Pulling.{all_implied, subs_with}
-use Rattle.stream_model.specs.Step.{Stands}
 use Rattle.stream_laws.proofs.ImpliedRecords.{fold-added-at, found-of-all}
-use Rattle.stream_laws.proofs.Invariant.{RulesDiffer, bound_by_rules}
-use Rattle.stream_laws.proofs.KeptStep.{kept-step}
 use Rattle.stream_laws.proofs.KeyLists.{All-in_order, each-entry}
 use Rattle.stream_laws.proofs.LawsOfEvents.{records_agree-from}
 use Rattle.stream_laws.proofs.LawsOfQuiet.{quiet_owes_no_other-from}
-use Rattle.stream_laws.proofs.LawsOfRecords.{records_are_open-from}
-use Rattle.stream_laws.proofs.Legal.{fits-stands}
 use Rattle.stream_laws.proofs.Unique.{AreUnique}
 use Rattle.stream_laws.proofs.UniqueSteps.{steady-legal, unique-fold}
-use Rattle.step_core.specs.declared.reading.SubSummary.{SubSummary}
-use Rattle.step_core.specs.Reads.{handled_of, is_named_before, summaries_in_order, summaries_of, summary_of}
 use Rattle.step_core.proofs.SortedOnce.{in_order-stable}
 use Rattle.step_core.proofs.SummaryLemmas.{named_order}
-use Rattle.stream_script.specs.Report.{closed_text, open_text, queue_report, summary_text}
 use Rattle.script_runs.proofs.Made.{IsMadeOf, all-made-of, made-where-owed}
 use Rattle.script_runs.proofs.Producers.{producers-tell}
 use Rattle.script_runs.proofs.ToldRecords.{any-kept, explicit-told, implicit-owed, implied-record, open-all}
@@ -159,9 +133,6 @@ abbrev implicit_key : SubName → List ℕ
 implicit_key (name.Explicit number) = []
 implicit_key (name.Implicit kind stream) = stream.key
 
-some-same : (a b : Binding) → Some a ≡ Some b → a ≡ b
-some-same a b same = cc
-
 module _ (blocks : ℕ) (limits : Limits) (history : List Entry) (p : PlainPartition) (stands : Stands blocks limits history p) where
   abbrev rules : List Rule
   rules = rules_of history
@@ -182,18 +153,21 @@ module _ (blocks : ℕ) (limits : Limits) (history : List Entry) (p : PlainParti
       ∙ ap (bound_by_rules (name.Implicit kind stream)) (told-legal blocks limits history p stands).rules
 
   each-made : (s : SubName) (r : Subscription) → value_at same_sub s made ≡ Some r → IsMadeOf rules 0 events (s, r)
-  each-made s r found = found-of-all (IsMadeOf rules 0 events) s r made (all-made-of rules 0 events differ) found
+  each-made s r found = found-of-all (IsMadeOf rules 0 events) s r made (all-made-of rules 0 events events (λ passes any. any) differ) found
+
+  bound-made : (kind : List ℕ) (stream : StreamId) (r : Subscription) (one : IsMadeOf rules 0 events (name.Implicit kind stream, r)) → binding_of history (name.Implicit kind stream) ≡ Some (record { stream = one.stream; start = batch_token one.from })
+  bound-made kind stream r one = bound-at kind stream ∙ (ap (λ s. bound_by_rules s rules) one.name ∙ one.bound)
+
+  made-owed : (kind : List ℕ) (stream : StreamId) (r : Subscription) → value_at same_sub (name.Implicit kind stream) made ≡ Some r → owed_events history (name.Implicit kind stream) ≢ []
+  made-owed kind stream r found none =
+      let one = each-made (name.Implicit kind stream) r found in
+      any-kept (λ event. is_owed one.stream (batch_token one.from) event) events one.owed (sym (ap (owed_of events) (bound-made kind stream r one)) ∙ none)
 
   -- the rules make a name of what was published exactly where it has a record, and then the same summary
   made-none : quiet p ≡ IsQuiet → (kind : List ℕ) (stream : StreamId) (o : Option Subscription) → sub_at p (name.Implicit kind stream) ≡ None → value_at same_sub (name.Implicit kind stream) made ≡ o → o ≡ None
   made-none is_quiet kind stream None none found = refl
   made-none is_quiet kind stream (Some r) none found =
-      let one = each-made (name.Implicit kind stream) r found in
-      let bound : binding_of history (name.Implicit kind stream) ≡ Some (record { stream = one.stream; start = batch_token one.from }) =
-      bound-at kind stream ∙ (ap (λ s. bound_by_rules s rules) one.name ∙ one.bound)
-      in
-      let nothing = quiet_owes_no_other-from kept-step blocks limits history p stands is_quiet kind stream none in
-      absurd (any-kept (λ event. is_owed one.stream (batch_token one.from) event) events one.owed (sym (ap (owed_of events) bound) ∙ nothing))
+      absurd (made-owed kind stream r found (quiet_owes_no_other-from kept-step blocks limits history p stands is_quiet kind stream none))
 
   same-summary : (kind : List ℕ) (stream : StreamId) (r now : Subscription) → sub_at p (name.Implicit kind stream) ≡ Some r → value_at same_sub (name.Implicit kind stream) made ≡ Some now
       → summary_of (name.Implicit kind stream, now) ≡ summary_of (name.Implicit kind stream, r)
@@ -202,7 +176,7 @@ module _ (blocks : ℕ) (limits : Limits) (history : List Entry) (p : PlainParti
       let one = each-made s now is in
       let owed = implicit-owed blocks limits history p stands kind stream r found in
       let bound = (records_agree-from kept-step blocks limits history p stands s r found).1 in
-      let binding = some-same _ _ (sym (bound-at kind stream ∙ (ap (λ s. bound_by_rules s rules) one.name ∙ one.bound)) ∙ bound) in
+      let binding = same_Some _ _ (sym (bound-made kind stream now one) ∙ bound) in
       let grain : record { kind = one.kind; key = one.stream.key } ≡ r.grain = (λ i. record { kind = implicit_kind (sym one.name i); key = implicit_key (sym one.name i) }) ∙ sym owed.grain in
       ap (λ (r : Subscription). summary_of (s, r)) one.value
       ∙ (λ i. record { name = s; stream = (binding i).stream; grain = grain i; start = (binding i).start; is_open = sym owed.is_open i })
@@ -242,12 +216,7 @@ module _ (blocks : ℕ) (limits : Limits) (history : List Entry) (p : PlainParti
   -- a name is among them exactly where it is owed an event
   owed-some : (kind : List ℕ) (stream : StreamId) (o : Option Subscription) → value_at same_sub (name.Implicit kind stream) made ≡ o → is_some o ≡ is_owed_some history (name.Implicit kind stream)
   owed-some kind stream (Some r) found =
-      let one = each-made (name.Implicit kind stream) r found in
-      let bound : binding_of history (name.Implicit kind stream) ≡ Some (record { stream = one.stream; start = batch_token one.from }) =
-      bound-at kind stream ∙ (ap (λ s. bound_by_rules s rules) one.name ∙ one.bound)
-      in
-      sym (some-long (owed_events history (name.Implicit kind stream))
-      (λ none. any-kept (λ event. is_owed one.stream (batch_token one.from) event) events one.owed (sym (ap (owed_of events) bound) ∙ none)))
+      sym (some-long (owed_events history (name.Implicit kind stream)) (made-owed kind stream r found))
   owed-some kind stream None found = by (binding_of history (name.Implicit kind stream)) refl
     where
       none-owed : (b : Binding) → binding_of history (name.Implicit kind stream) ≡ Some b → (owed : Bool) → list_any (λ event. is_owed b.stream b.start event) events ≡ owed → filter (λ event. is_owed b.stream b.start event) events ≡ []

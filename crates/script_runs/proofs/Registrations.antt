@@ -1,25 +1,12 @@
 -- What an operation keeps of the records: who was subscribed to what, and the rules.
-use Rattle.std.proofs.Common.{◌≡◌, ◌∙◌, ap, sym, refl, ℕ, suc, ◌+◌, ◌==◌, ◌&&◌, ◌||◌, not, nat_lt, nat_le, true, false, List, [], ◌∷◌, ◌++◌, length, map, Option, Some, None, is_some, if◌then◌else◌}
-use Rattle.std.proofs.lemmas.Bool.{cond_both}
-use Rattle.stream_ident.specs.declared.ident.GrainId.{GrainId}
-use Rattle.stream_ident.specs.declared.ident.StreamId.{StreamId}
-use Rattle.stream_ident.specs.declared.ident.SubName.{SubName}
+use Rattle.script_runs.proofs.Prelude.{◌≡◌, ◌∙◌, ap, sym, refl, ℕ, suc, ◌+◌, ◌==◌, ◌&&◌, ◌||◌, not, nat_lt, nat_le, true, false, List, [], ◌∷◌, ◌++◌, length, map, Option, Some, None, is_some, if◌then◌else◌, cond_both, same_grain, same_sub, each_value, past, value_at, with_value, GrainId, StreamId, SubName, BATCH_EVENTS, MAILBOX_PLACES, Token, grain_at, is_spent, next_position, sub_at, acknowledged, caught_up, handled_at, is_stale, rewound, rewound_where, Reply, PlainPartition, Subscription}
 use Rattle.stream_ident.specs.declared.ident.SubName.TheVariants as name
-use Rattle.stream_ident.specs.declared.token.Token.{Token}
 use Rattle.stream_ident.specs.Blocks.{turn_size}
-use Rattle.stream_ident.specs.Name.{same_grain}
-use Rattle.stream_ident.specs.SubName.{same_sub}
-use Rattle.stream_ident.specs.Words.{each_value, past, value_at, with_value}
-use Rattle.stream_ident.specs.declared.limits.TheConstants.{BATCH_EVENTS, MAILBOX_PLACES}
 use Rattle.stream_model.specs.declared.plain.Delivery.{Delivery}
 use Rattle.stream_model.specs.declared.plain.Grain.{Grain}
-use Rattle.stream_model.specs.declared.plain.PlainPartition.{PlainPartition}
 use Rattle.stream_model.specs.declared.plain.RunningTurn.{RunningTurn}
-use Rattle.stream_model.specs.declared.plain.Subscription.{Subscription}
-use Rattle.stream_model.specs.Replies.{Reply}
-use Rattle.stream_model.specs.Positions.{grain_at, is_spent, next_position, sub_at}
 use Rattle.stream_model.specs.Publishing.{publish, unsubscribe, unsubscribe_from}
-use Rattle.stream_model.specs.Pulling.{ack, ack_of, ack_position, acknowledged, caught_up, deliver, deliver_position, deliver_to, handled_at, is_stale, move, move_to, purge, purge_to, retry, retry_of, rewound, rewound_where}
+use Rattle.stream_model.specs.Pulling.{ack, ack_of, ack_position, deliver, deliver_position, deliver_to, move, move_to, purge, purge_to, retry, retry_of}
 use Rattle.stream_model.specs.Turns.{begin, begin_for, begin_front, begin_in, begin_turn, commit, commit_for, commit_running, deactivate, deactivate_in}
 
 -- who is subscribed to what, from when on

@@ -1,21 +1,8 @@
 -- What a script says of the reply to a line, and of the lines after it.
-use Rattle.std.proofs.Common.{◌≡◌, ◌≢◌, ◌||◌, ℕ, true, false, List, [], ◌∷◌, ◌++◌, Option, Some, None, Ok, refl, sym, ap, subst, ◌∙◌}
-use Rattle.std.proofs.lemmas.Bool.{eq-eqb}
-use Rattle.std.proofs.lemmas.List.{map-append}
-use Rattle.stream_model.specs.declared.op.Op.{Op}
-use Rattle.stream_model.specs.declared.plain.PlainPartition.{PlainPartition}
-use Rattle.stream_model.specs.Replies.{Reply}
+use Rattle.script_runs.proofs.Prelude.{BeganEmpty, after, replied, told_of, QueuePass, QueueCalls, ◌≡◌, ◌≢◌, ◌||◌, ℕ, true, false, List, [], ◌∷◌, ◌++◌, Option, Some, None, Ok, refl, sym, ap, subst, ◌∙◌, eq-eqb, map-append, is_producer, Reply, Stands, Op, PlainPartition, Command, entry, replay, Entry}
 use Rattle.stream_model.specs.declared.reply.Reply.TheVariants as reply
 use Rattle.stream_model.specs.History as told
-use Rattle.stream_model.specs.Producers.{is_producer}
-use Rattle.stream_model.specs.Step.{Stands}
-use Rattle.turnstile.specs.declared.history.Entry.{Entry}
-use Rattle.turnstile.specs.History.{entry, replay}
 use Rattle.turnstile.specs.Passes.{Origin}
-use Rattle.shared_partition.specs.Partitions.{BeganEmpty, after, replied, told_of}
-use Rattle.silo_loops.specs.Lines.{QueuePass}
-use Rattle.silo_threads.specs.Calls.{QueueCalls}
-use Rattle.stream_script.specs.declared.parser.command.Command.{Command}
 use Rattle.script_runs.specs.declared.reader.line.Line.{Line}
 use Rattle.script_runs.specs.ScriptLaws.{HasNoLine, is_limit, is_miss}
 use Rattle.script_runs.specs.ScriptReport.{op_printed, reply_lines}
@@ -49,10 +36,9 @@ printed-so number r = refl
 -- ---- one line more
 
 -- whatever was answered, the lines before are told as they were
-before-same : (a : Answer) (number : ℕ) (missed : List ℕ) (queue : ℕ) (lines : List Line) → HasNoLine number lines
+pub before-same : (a : Answer) (number : ℕ) (missed : List ℕ) (queue : ℕ) (lines : List Line) → HasNoLine number lines
     → script.told (with_missed a number missed) queue lines ≡ script.told missed queue lines
 before-same answer.Missed number missed queue lines none = misses-change-no-other.told missed number queue lines none
-before-same answer.Taken number missed queue lines none = refl
 before-same a number missed queue lines none = refl
 
 -- the line, as it is told

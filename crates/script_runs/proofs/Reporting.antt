@@ -1,61 +1,37 @@
 -- What a run prints, by what its script did and how its cluster has ended.
-use Rattle.std.proofs.Common.{◌≡◌, ℕ, suc, ◌+◌, inl, inr, true, List, [], ◌∷◌, ◌++◌, length, map, Contains, Some, codes, refl, sym, ap, subst, ◌∙◌, add-one, arith}
-use Rattle.std.proofs.lemmas.Bool.{true≢false}
-use Rattle.std.proofs.lemmas.List.{append-nil, length-map}
-use Rattle.std.specs.List.{AllByRecursion, AllZip, flat_map, range_with_len}
-use Rattle.std.specs.Prelude.{slice_get}
-use Rattle.stream_model.specs.declared.op.Op.{Op}
-use Rattle.stream_model.specs.declared.plain.PlainPartition.{PlainPartition}
-use Rattle.stream_model.specs.Replies.{Reply}
-use Rattle.stream_model.specs.History as told
+use Rattle.script_runs.proofs.Prelude.{told_of, owns-foreign, LineView, QueuePass, places, asks-foreign, zip-at, turnstiles, AreAtQueues, ClusterView, HasFinished, IsAtQueue, IsConfig, IsNew, HasGoneOn, ◌≡◌, ℕ, suc, ◌+◌, inl, inr, true, List, [], ◌∷◌, ◌++◌, length, map, Contains, Some, refl, sym, ap, subst, ◌∙◌, add-one, arith, true≢false, append-nil, AllByRecursion, AllZip, flat_map, range_with_len, slice_get, All-weaken, is_producer, Reply, Op, PlainPartition, queue_report, report_from, numbers_of, Entry}
+use Rattle.std.proofs.Common.{codes}
+use Rattle.std.proofs.lemmas.Slice.Zip.{AllZip-long}
 use Rattle.stream_model.specs.Looks.{quiet}
-use Rattle.stream_model.specs.Producers.{is_producer}
-use Rattle.turnstile.specs.declared.history.Entry.{Entry}
-use Rattle.turnstile.specs.Calls.{numbers_of}
-use Rattle.turnstile.specs.Passes.{Origin}
-use Rattle.shared_partition.specs.Partitions.{told_of}
-use Rattle.silo_loops.specs.Lines.{LineView, QueuePass, places}
-use Rattle.silo_loops.proofs.Owning.{owns-foreign}
-use Rattle.silo_threads.specs.Calls.{turnstiles}
 use Rattle.silo_threads.specs.declared.ending.finishing.Finished.{Finished}
 use Rattle.silo_threads.specs.declared.ending.finishing.Finished.TheVariants as finished
 use Rattle.silo_threads.specs.Closing.{AreTraces, IsTraceOf}
 use Rattle.silo_threads.specs.Finishing.{CallersAloneProduce, HasBegun, IsDone}
 use Rattle.silo_threads.proofs.Looking.{turnstiles-length}
-use Rattle.silo_threads.proofs.Rows.{zip-at}
-use Rattle.stream_script.specs.Report.{queue_report, report_from}
 use Rattle.silo_threads.specs.declared.clusters.config.Config.{Config}
 use Rattle.silo_loops.specs.Silos.{SiloView}
-use Rattle.silo_threads.specs.Clusters.{ClusterView, HasFinished, IsAtQueue, IsConfig, IsNew}
-use Rattle.silo_threads.specs.Draining.{HasGoneOn}
 use Rattle.stream_script.specs.declared.parser.command.Command.TheVariants as command
 use Rattle.script_runs.specs.declared.reader.line.Line.{Line}
 use Rattle.script_runs.specs.declared.reader.script_line.ScriptLine.{ScriptLine}
 use Rattle.script_runs.specs.ScriptReport.{told_report}
 use Rattle.script_runs.specs.Told as script
+use Rattle.script_runs.proofs.Histories.{at-queues, beside-length}
 use Rattle.script_runs.proofs.QuietReports.{script-told}
-use Rattle.silo_threads.proofs.GoneOn.{asks-foreign}
-use Rattle.script_runs.specs.Telling.{AloneProduces, BeginsEmpty, HasTold, ProducesAlone}
+use Rattle.script_runs.specs.Telling.{AloneProduces, BeginsEmpty, HasTold, ProducesAlone, told_at}
 use Rattle.script_runs.proofs.Seen.{none-told}
 use Rattle.script_runs.specs.declared.runs.running.ScriptEnd.{ScriptEnd}
 use Rattle.script_runs.specs.declared.runs.running.ScriptEnd.TheVariants as end
 use Rattle.script_runs.specs.Lines.{HasToldFront}
 use Rattle.script_runs.specs.Runs.{DoesFront, EndsRun, EndsScript, IsPrinted, IsUntouched, TellFront, missed_in, run_end}
 use Rattle.script_runs.proofs.Fronts.{none-part}
+use Rattle.script_runs.proofs.Placing.{all-from}
 use Rattle.script_runs.proofs.Progress.{alone-back}
 
 -- ---- a new cluster
 
-begins-empty : (config : Config) (caller : List QueuePass) (lines : List LineView) → IsConfig config → AllByRecursion (λ (l : LineView). IsAtQueue config l.pass) lines → turnstiles caller ≡ places lines → AllByRecursion BeginsEmpty caller
-begins-empty config [] lines is at beside = tt
-begins-empty config (p ∷ ps) [] is at beside = absurd (cc)
-begins-empty config (p ∷ ps) (l ∷ lines) is at beside =
-    let first : p.turnstile ≡ l.pass.turnstile = cc in
-    let rest : turnstiles ps ≡ places lines = cc in
-    let origin : Origin PlainPartition = at.0.0 in (
-      (origin, first ∙ at.0.1, (config.blocks, config.limits, is.blocks.0, ap (λ x. x.state) at.0.2)),
-      begins-empty config ps lines is at.1 rest,
-    )
+begins-empty : (config : Config) (caller : List QueuePass) (lines : List LineView) → IsConfig config → AreAtQueues config lines → turnstiles caller ≡ places lines → AllByRecursion BeginsEmpty caller
+begins-empty config caller lines is at beside =
+    All-weaken (IsAtQueue config) BeginsEmpty (λ (p : QueuePass) at. (at.0, at.1, (config.blocks, config.limits, is.blocks.0, ap (λ x. x.state) at.2))) caller (at-queues config lines caller at beside)
 
 pub untouched : (config : Config) (c : ClusterView) (caller : List QueuePass) → IsConfig config → IsNew config c caller → IsUntouched config.silos c caller
 untouched config c caller is new =
@@ -88,11 +64,6 @@ made-alone caller histories queue p history alone had at =
       | inr none ↦ absurd none
     ])
 
-all-from : {A B : Type 0} (R : A → B → Type 0) (P : A → Type 0) (xs : List A) (ys : List B) → AllZip R xs ys → ((k : ℕ) (x : A) (y : B) → slice_get xs k ≡ Some x → slice_get ys k ≡ Some y → R x y → P x) → AllByRecursion P xs
-all-from R P [] ys all each = tt
-all-from R P (x ∷ xs) [] all each = absurd all
-all-from R P (x ∷ xs) (y ∷ ys) all each = (each 0 x y refl refl all.0, all-from R P xs ys all.1 (λ k z w had at holds. each (suc k) z w had at holds))
-
 -- nobody else had produced, as far as the caller has seen
 pub alone : (caller : List QueuePass) (histories : List (List (Entry Op Reply))) → AllZip HasBegun caller histories → CallersAloneProduce (caller ∷ []) histories → AloneProduces caller
 alone caller histories begun made =
@@ -100,14 +71,17 @@ alone caller histories begun made =
     (alone-back (p ∷ []) (at_end p history ∷ []) (ends-on p history is, tt) (made-alone caller histories queue p history made had at, tt)).0)
 
 -- what a history tells of producers is what the caller was told
-pub histories-tell : (caller : List QueuePass) (histories : List (List (Entry Op Reply))) (missed : List ℕ) (lines : List Line) → AllZip HasBegun caller histories → CallersAloneProduce (caller ∷ []) histories → HasTold missed lines caller
-    → (queue : ℕ) (history : List (Entry Op Reply)) → slice_get histories queue ≡ Some history → script.producers_entries (told_of history) ≡ script.told missed queue lines
-histories-tell caller histories missed lines begun made told queue history at =
+told-alike : (caller : List QueuePass) (histories : List (List (Entry Op Reply))) (queue : ℕ) (history : List (Entry Op Reply)) → AllZip HasBegun caller histories → CallersAloneProduce (caller ∷ []) histories → slice_get histories queue ≡ Some history
+    → (p : QueuePass) × (slice_get caller queue ≡ Some p) × (script.producers_entries (told_of history) ≡ told_at p)
+told-alike caller histories queue history begun made at =
     let beside = zip-at HasBegun caller histories queue history begun at in
     let p = beside.0 in
     let is = beside.2 in
-    none-told p (at_end p history) (record { on = ends-on p history is; none = owns-foreign is_producer (numbers_of p) is.rest is.foreign }) (made-alone caller histories queue p history made beside.1 at)
-    ∙ told queue p beside.1
+    (p, beside.1, none-told p (at_end p history) (record { on = ends-on p history is; none = owns-foreign is_producer (numbers_of p) is.rest is.foreign }) (made-alone caller histories queue p history made beside.1 at))
+
+histories-tell : (caller : List QueuePass) (histories : List (List (Entry Op Reply))) (missed : List ℕ) (lines : List Line) → AllZip HasBegun caller histories → CallersAloneProduce (caller ∷ []) histories → HasTold missed lines caller
+    → (queue : ℕ) (history : List (Entry Op Reply)) → slice_get histories queue ≡ Some history → script.producers_entries (told_of history) ≡ script.told missed queue lines
+histories-tell caller histories missed lines begun made told queue history at = let alike = told-alike caller histories queue history begun made at in alike.2 ∙ told queue alike.0 alike.1
 
 -- so is what it tells of a front of a script
 front-tells : (caller : List QueuePass) (histories : List (List (Entry Op Reply))) (missed : List ℕ) (done left : List Line) → AllZip HasBegun caller histories → CallersAloneProduce (caller ∷ []) histories → HasToldFront missed done left caller
@@ -115,11 +89,9 @@ front-tells : (caller : List QueuePass) (histories : List (List (Entry Op Reply)
 front-tells caller histories missed done left begun made front = (
   front.0,
   λ queue history at.
-      let beside = zip-at HasBegun caller histories queue history begun at in
-      let p = beside.0 in
-      let is = beside.2 in
-      let has = front.1 queue p beside.1 in
-      (has.0, none-told p (at_end p history) (record { on = ends-on p history is; none = owns-foreign is_producer (numbers_of p) is.rest is.foreign }) (made-alone caller histories queue p history made beside.1 at) ∙ has.1, has.2),
+      let alike = told-alike caller histories queue history begun made at in
+      let has = front.1 queue alike.0 alike.1 in
+      (has.0, alike.2 ∙ has.1, has.2),
 )
 
 -- ---- the report
@@ -146,22 +118,12 @@ report-from (p ∷ ps) (h ∷ hs) (partition ∷ partitions) queue missed lines 
 
 -- ---- a run
 
-length-zip : {A B : Type 0} (R : A → B → Type 0) (xs : List A) (ys : List B) → AllZip R xs ys → length ys ≡ length xs
-length-zip R [] [] all = refl
-length-zip R [] (y ∷ ys) all = absurd all
-length-zip R (x ∷ xs) [] all = absurd all
-length-zip R (x ∷ xs) (y ∷ ys) all = ap suc (length-zip R xs ys all.1)
-
 pub new-queues : (config : Config) (c : ClusterView) (caller : List QueuePass) → IsNew config c caller → length caller ≡ config.queues
-new-queues config c caller new =
-    sym (length-map caller (λ (p : QueuePass). p.turnstile))
-    ∙ ap (λ ts. length ts) new.opened.beside
-    ∙ length-map c.operator.lines (λ (l : LineView). l.pass.turnstile)
-    ∙ new.opened.queues
+new-queues config c caller new = beside-length caller c.operator.lines new.opened.beside ∙ new.opened.queues
 
 count-queues : (config : Config) (c : ClusterView) (caller now : List QueuePass) (histories : List (List (Entry Op Reply))) → IsNew config c caller → turnstiles now ≡ turnstiles caller → AllZip HasBegun now histories → length histories ≡ config.queues
 count-queues config c caller now histories new same begun =
-    length-zip HasBegun now histories begun ∙ turnstiles-length caller now same ∙ new-queues config c caller new
+    AllZip-long HasBegun now histories begun ∙ turnstiles-length caller now same ∙ new-queues config c caller new
 
 module _ {H : Type 0} (entries : H → List (Entry Op Reply)) where
   -- what a script has printed and told that was done in part or as a whole, where nobody else has produced
@@ -186,10 +148,8 @@ module _ {H : Type 0} (entries : H → List (Entry Op Reply)) where
         ends.1.printed config.silos fresh others,
         front-tells now histories missed lines [] begun made (0, λ queue p at. ([], ends.1.told config.silos fresh others queue p at ∙ sym (append-nil (script.told missed queue lines)), none-part 0 command.Drain queue (λ less. refl))),
       )
-  front-done config lines c w caller now found end.Limit histories is new ends begun made = front-known config lines c caller now found histories is new ends.1.0 begun made
-  front-done config lines c w caller now found end.NotQuiet histories is new ends begun made = front-known config lines c caller now found histories is new ends.1.0 begun made
-  front-done config lines c w caller now found end.RoundLimit histories is new ends begun made = front-known config lines c caller now found histories is new ends.1.0 begun made
   front-done config lines c w caller now found end.Halted histories is new ends begun made = absurd (true≢false (sym ends.0 ∙ new.goes_on))
+  front-done config lines c w caller now found how histories is new ends begun made = front-known config lines c caller now found histories is new ends.1.0 begun made
 
   pub run-ends : (back : List SiloView) (config : Config) (lines : List Line) (c w : ClusterView) (caller now : List QueuePass) (found : List ScriptLine) (answer : Finished H) (how : ScriptEnd) → IsConfig config → IsNew config c caller → turnstiles now ≡ turnstiles caller
       → EndsScript how lines c caller found w now → HasFinished entries w (now ∷ []) back answer → EndsRun entries config lines found (run_end answer how)
@@ -208,14 +168,8 @@ module _ {H : Type 0} (entries : H → List (Entry Op Reply)) where
         answers.4 ∙ ap (λ (rest : List ℕ). codes "report\n" ++ rest) (whole ∙ ap (λ (many : ℕ). flat_map (λ q. told_report q (script.told missed q lines)) (range_with_len 0 many)) queues),
         tell,
       )
-  run-ends back config lines c w caller now found (finished.Report text traces) end.Limit is new same ends fin =
-      front-done config lines c w caller now found end.Limit (map entries traces.histories.items) is new ends fin.begun.of_callers.0 fin.producers
-  run-ends back config lines c w caller now found (finished.Report text traces) end.NotQuiet is new same ends fin =
-      front-done config lines c w caller now found end.NotQuiet (map entries traces.histories.items) is new ends fin.begun.of_callers.0 fin.producers
-  run-ends back config lines c w caller now found (finished.Report text traces) end.RoundLimit is new same ends fin =
-      front-done config lines c w caller now found end.RoundLimit (map entries traces.histories.items) is new ends fin.begun.of_callers.0 fin.producers
-  run-ends back config lines c w caller now found (finished.Report text traces) end.Halted is new same ends fin =
-      front-done config lines c w caller now found end.Halted (map entries traces.histories.items) is new ends fin.begun.of_callers.0 fin.producers
+  run-ends back config lines c w caller now found (finished.Report text traces) how is new same ends fin =
+      front-done config lines c w caller now found how (map entries traces.histories.items) is new ends fin.begun.of_callers.0 fin.producers
   run-ends back config lines c w caller now found (finished.NotQuiet queue why traces) how is new same ends fin =
       front-done config lines c w caller now found how (map entries traces.histories.items) is new ends fin.begun.of_callers.0 fin.producers
   run-ends back config lines c w caller now found (finished.RoundLimit traces) how is new same ends fin =

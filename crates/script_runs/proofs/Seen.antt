@@ -1,23 +1,8 @@
 -- What calls add to what producers asked for and were told at a queue.
-use Rattle.std.proofs.Common.{◌≡◌, inl, ℕ, Bool, true, false, if◌then◌else◌, List, [], ◌∷◌, ◌++◌, map, filter, Contains, Ok, refl, ap, subst, ◌∙◌}
-use Rattle.std.proofs.lemmas.List.{append-nil, map-append}
-use Rattle.std.proofs.lemmas.List.Elements.{filter-append}
-use Rattle.std.specs.List.{AllByRecursion}
-use Rattle.stream_model.specs.declared.op.Op.{Op}
-use Rattle.stream_model.specs.Replies.{Reply}
+use Rattle.script_runs.proofs.Prelude.{told_of, owns-foreign, QueuePass, called-on, QueueCalls, HasGoneOn, ProducesNone, ◌≡◌, inl, ℕ, Bool, true, false, if◌then◌else◌, List, [], ◌∷◌, ◌++◌, map, filter, Contains, Ok, refl, ap, subst, ◌∙◌, append-nil, map-append, filter-append, AllByRecursion, is_producer, Reply, Op, numbers_of, entry, Entry}
 use Rattle.stream_model.specs.History as told
-use Rattle.stream_model.specs.Producers.{is_producer}
-use Rattle.turnstile.specs.declared.history.Entry.{Entry}
-use Rattle.turnstile.specs.Calls.{numbers_of}
-use Rattle.turnstile.specs.History.{entry}
-use Rattle.shared_partition.specs.Partitions.{told_of}
-use Rattle.silo_loops.specs.Lines.{QueuePass}
 use Rattle.silo_loops.specs.Passes.{OwnsNone}
-use Rattle.silo_loops.proofs.Owning.{owns-foreign}
-use Rattle.silo_threads.specs.Calls.{QueueCalls}
-use Rattle.silo_threads.specs.Draining.{HasGoneOn, ProducesNone}
 use Rattle.script_runs.specs.Told as script
-use Rattle.silo_threads.proofs.GoneOn.{called-on}
 use Rattle.script_runs.specs.Telling.{ProducesAlone, told_at}
 
 abbrev pub all_told : List (Entry Op Reply) → List told.Entry

@@ -1,34 +1,12 @@
 -- The records of a partition, by what the history tells of them.
-use Rattle.std.proofs.Common.{◌≡◌, ◌≢◌, ◌∙◌, ap, sym, refl, ℕ, Bool, true, false, ◌||◌, not, List, [], ◌∷◌, map, filter, Option, Some, None, option_map, if◌then◌else◌}
-use Rattle.std.proofs.lemmas.Bool.{false≢true}
-use Rattle.std.specs.List.{AllByRecursion, cons_option, filter_map, list_any}
-use Rattle.stream_ident.specs.declared.event.Event.{Event}
-use Rattle.stream_ident.specs.declared.ident.GrainId.{GrainId}
-use Rattle.stream_ident.specs.declared.ident.SubName.{SubName}
+use Rattle.script_runs.proofs.Prelude.{◌≡◌, ◌≢◌, ◌∙◌, ap, sym, refl, ℕ, Bool, true, false, ◌||◌, not, List, [], ◌∷◌, map, filter, Option, Some, None, option_map, if◌then◌else◌, false≢true, AllByRecursion, cons_option, filter_map, list_any, handled_by, summary_of, SubSummary, sub_equality, is_owed, same_sub, Event, GrainId, SubName, kept-step, records_are_open-from, fits-stands, binding_of, handled_events, published_events, owed_of, sub_at, Reply, Stands, Limits, Op, Subscribe, PlainPartition, Subscription}
 use Rattle.stream_ident.specs.declared.ident.SubName.TheVariants as name
-use Rattle.stream_ident.specs.Event.{is_owed}
-use Rattle.stream_ident.specs.SubName.{same_sub}
-use Rattle.stream_ident.proofs.SameValues.{sub_equality}
-use Rattle.stream_model.specs.declared.limits.Limits.{Limits}
-use Rattle.stream_model.specs.declared.op.Op.{Op}
-use Rattle.stream_model.specs.declared.op.Op.TheVariants.{Subscribe}
-use Rattle.stream_model.specs.declared.plain.PlainPartition.{PlainPartition}
-use Rattle.stream_model.specs.declared.plain.Subscription.{Subscription}
-use Rattle.stream_model.specs.Replies.{Reply}
 use Rattle.stream_model.specs.declared.reply.Reply.TheVariants as reply
-use Rattle.stream_model.specs.History.{Entry, binding_of, handled_events, published_events}
-use Rattle.stream_model.specs.NewestFirst.{owed_of}
-use Rattle.stream_model.specs.Positions.{sub_at}
-use Rattle.stream_model.specs.Step.{Stands}
-use Rattle.stream_laws.proofs.KeptStep.{kept-step}
+use Rattle.stream_model.specs.History.{Entry}
 use Rattle.stream_laws.proofs.KeyLists.{each-entry, entry-found}
 use Rattle.stream_laws.proofs.LawsOfEvents.{records_agree-from}
 use Rattle.stream_laws.proofs.LawsOfQuiet.{quiet_is_done-from}
-use Rattle.stream_laws.proofs.LawsOfRecords.{records_are_open-from}
-use Rattle.stream_laws.proofs.Legal.{fits-stands}
 use Rattle.stream_laws.proofs.UniqueSteps.{steady-legal}
-use Rattle.step_core.specs.declared.reading.SubSummary.{SubSummary}
-use Rattle.step_core.specs.Reads.{handled_by, summary_of}
 use Rattle.script_runs.proofs.Registrations.{registered, registrations}
 use Rattle.script_runs.proofs.ToldSteps.{IsImplied, IsImpliedBy, all_given, given_by, given_of, told-legal}
 use Rattle.script_runs.specs.ScriptLaws.{ExplicitAreTold, ImplicitAreOwed, OpenHaveAll, is_explicit}

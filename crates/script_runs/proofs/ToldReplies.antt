@@ -1,38 +1,15 @@
 -- What a producer is answered, by the producers' entries before it.
-use Rattle.std.proofs.Common.{◌≡◌, ◌∙◌, ap, sym, refl, ℕ, zero, suc, ◌+◌, ◌==◌, ◌&&◌, ◌||◌, not, nat_lt, nat_le, true, false, List, ◌∷◌, length, Option, Some, None, is_some, if◌then◌else◌, arith}
-use Rattle.std.proofs.lemmas.Bool.{and_from, and_right, cond_both, false≢true, le-leb, lt-leb, ltb-false, ltb-true, ne_eqb, or_parts}
-use Rattle.std.specs.List.{list_any}
-use Rattle.stream_ident.specs.declared.ident.GrainId.{GrainId}
-use Rattle.stream_ident.specs.declared.ident.StreamId.{StreamId}
-use Rattle.stream_ident.specs.declared.ident.SubName.{SubName}
+use Rattle.script_runs.proofs.Prelude.{◌≡◌, ◌∙◌, ap, sym, refl, ℕ, zero, suc, ◌+◌, ◌==◌, ◌&&◌, ◌||◌, not, nat_lt, nat_le, true, false, List, ◌∷◌, length, Option, Some, None, is_some, if◌then◌else◌, arith, and_from, and_right, cond_both, false≢true, le-leb, lt-leb, ltb-false, ltb-true, ne_eqb, or_parts, list_any, batch_token, same_name, token_lt, GrainId, StreamId, SubName, BATCH_EVENTS, Rule, Token, kept-step, unknown_has_no_record-from, fits-stands, leads-split, is_given, is_closed, empty, low_token, lower_bound, sub_at, is_producer, Reply, Stands, Limits, Op, Latest, At, PlainPartition, Subscription}
 use Rattle.stream_ident.specs.declared.ident.SubName.TheVariants as name
-use Rattle.stream_ident.specs.declared.rule.Rule.{Rule}
-use Rattle.stream_ident.specs.declared.token.Token.{Token}
-use Rattle.stream_ident.specs.Event.{batch_token}
-use Rattle.stream_ident.specs.Name.{same_name}
-use Rattle.stream_ident.specs.Token.{token_lt}
-use Rattle.stream_ident.specs.declared.limits.TheConstants.{BATCH_EVENTS}
-use Rattle.stream_model.specs.declared.limits.Limits.{Limits}
-use Rattle.stream_model.specs.declared.op.Op.{Op}
 use Rattle.stream_model.specs.declared.op.Op.TheVariants as op
 use Rattle.stream_model.specs.declared.op.Start.{Start}
-use Rattle.stream_model.specs.declared.op.Start.TheVariants.{Latest, At}
-use Rattle.stream_model.specs.declared.plain.PlainPartition.{PlainPartition}
-use Rattle.stream_model.specs.declared.plain.Subscription.{Subscription}
-use Rattle.stream_model.specs.Replies.{Reply}
 use Rattle.stream_model.specs.declared.reply.Reply.TheVariants as reply
-use Rattle.stream_model.specs.History.{Entry, is_closed}
-use Rattle.stream_model.specs.Positions.{empty, low_token, lower_bound, sub_at}
+use Rattle.stream_model.specs.History.{Entry}
 use Rattle.stream_model.specs.Publishing.{add_rule, publish, subscribe, subscribe_at, unsubscribe, unsubscribe_from}
-use Rattle.stream_model.specs.Step.{Stands, step}
-use Rattle.stream_laws.specs.Laws.{is_given}
-use Rattle.stream_laws.proofs.KeptStep.{kept-step}
-use Rattle.stream_laws.proofs.LawsOfRecords.{unknown_has_no_record-from}
-use Rattle.stream_laws.proofs.Legal.{fits-stands, leads-split}
+use Rattle.stream_model.specs.Step.{step}
 use Rattle.script_runs.proofs.Producers.{batches-same, count-same, given-same, producers-tell}
 use Rattle.script_runs.proofs.ToldSteps.{told-legal}
 use Rattle.script_runs.specs.ScriptLaws.{RepliesAreTold, is_limit, is_miss}
-use Rattle.stream_model.specs.Producers.{is_producer}
 use Rattle.script_runs.specs.Told.{batch_count, has_rule, is_among, producers_entries, rules_of, subscribe_reply, subscribed_count, told_of, told_reply}
 
 -- what the producers' entries tell of the partition

@@ -1,47 +1,20 @@
 -- What a history tells of the registrations and the rules of the partition that it leaves.
-use Rattle.std.proofs.Common.{◌≡◌, ◌∙◌, ap, sym, subst, refl, ℕ, suc, ◌+◌, ◌-◌, ◌*◌, ◌==◌, ◌&&◌, ◌||◌, not, min, nat_lt, nat_le, Bool, true, false, List, [], ◌∷◌, ◌++◌, length, filter, take, drop, reverse, fold, Option, Some, None, is_some, if◌then◌else◌, arith}
-use Rattle.std.proofs.lemmas.Bool.{cond_both, or_right}
-use Rattle.std.proofs.lemmas.List.{append-nil, append_assoc, length-append, map-append, reverse-append, take-append-drop}
-use Rattle.std.proofs.lemmas.List.Elements.{filter-append, filter_map-append}
+use Rattle.script_runs.proofs.Prelude.{◌≡◌, ◌∙◌, ap, sym, subst, refl, ℕ, suc, ◌+◌, ◌-◌, ◌*◌, ◌==◌, ◌&&◌, ◌||◌, not, min, nat_lt, nat_le, Bool, true, false, List, [], ◌∷◌, ◌++◌, length, filter, take, drop, reverse, fold, Option, Some, None, is_some, if◌then◌else◌, arith, cond_both, or_right, append-nil, map-append, reverse-append, take-append-drop, filter-append, filter_map-append, AllByRecursion, cons_option, filter_map, list_any, All-append, All-weaken, batch_token, is_owed, same_name, same_sub, token_lt, value_at, with_value, Event, GrainId, StreamId, SubName, BLOCK_EVENTS, Rule, Token, Fits, kept-step, fits-empty, fits-step, is_closed, published_events, closed_after, published_after, between, empty, low_token, lower_bound, new_subscription, sub_at, all_implied, drops, is_stale, room, subs_with, Reply, Leads, Stands, Limits, Op, Latest, At, PlainPartition, Subscription}
+use Rattle.std.proofs.lemmas.List.{append_assoc, length-append}
 use Rattle.std.proofs.lemmas.List.Folds.{list_any-append}
-use Rattle.std.specs.List.{AllByRecursion, cons_option, filter_map, list_any}
-use Rattle.stream_ident.specs.declared.event.Event.{Event}
-use Rattle.stream_ident.specs.declared.ident.GrainId.{GrainId}
-use Rattle.stream_ident.specs.declared.ident.StreamId.{StreamId}
-use Rattle.stream_ident.specs.declared.ident.SubName.{SubName}
 use Rattle.stream_ident.specs.declared.ident.SubName.TheVariants as name
-use Rattle.stream_ident.specs.declared.rule.Rule.{Rule}
-use Rattle.stream_ident.specs.declared.token.Token.{Token}
 use Rattle.stream_ident.specs.Blocks.{pull_size}
-use Rattle.stream_ident.specs.Event.{batch_token, is_owed}
 use Rattle.stream_ident.specs.Implying.{added}
-use Rattle.stream_ident.specs.Name.{same_name}
-use Rattle.stream_ident.specs.SubName.{same_sub}
-use Rattle.stream_ident.specs.Token.{token_lt}
-use Rattle.stream_ident.specs.Words.{value_at, with_value}
-use Rattle.stream_ident.specs.declared.limits.TheConstants.{BLOCK_EVENTS}
-use Rattle.stream_model.specs.declared.limits.Limits.{Limits}
-use Rattle.stream_model.specs.declared.op.Op.{Op}
 use Rattle.stream_model.specs.declared.op.Op.TheVariants as op
 use Rattle.stream_model.specs.declared.op.Start.{Start}
-use Rattle.stream_model.specs.declared.op.Start.TheVariants.{Latest, At}
-use Rattle.stream_model.specs.declared.plain.PlainPartition.{PlainPartition}
-use Rattle.stream_model.specs.declared.plain.Subscription.{Subscription}
-use Rattle.stream_model.specs.Replies.{Reply}
 use Rattle.stream_model.specs.declared.reply.Reply.TheVariants as reply
-use Rattle.stream_model.specs.History.{Entry, is_closed, published_events}
+use Rattle.stream_model.specs.History.{Entry}
 use Rattle.stream_model.specs.NewestFirst as newest
-use Rattle.stream_model.specs.NewestFirst.{closed_after, published_after}
-use Rattle.stream_model.specs.Positions.{between, empty, low_token, lower_bound, new_subscription, sub_at}
 use Rattle.stream_model.specs.Publishing.{add_rule, subscribe, subscribe_at, unsubscribe, unsubscribe_from}
-use Rattle.stream_model.specs.Pulling.{all_implied, drops, is_stale, pull, pull_count, pull_events, pull_want, room, subs_with}
-use Rattle.stream_model.specs.Step.{Leads, Stands, step}
-use Rattle.stream_ident.proofs.EachOf.{All-append, All-weaken}
-use Rattle.stream_laws.proofs.Invariant.{Fits}
-use Rattle.stream_laws.proofs.KeptStep.{kept-step}
-use Rattle.stream_laws.proofs.Legal.{fits-empty, fits-step}
+use Rattle.stream_model.specs.Pulling.{pull, pull_count, pull_events, pull_want}
+use Rattle.stream_model.specs.Step.{step}
 use Rattle.stream_laws.proofs.Summary.{summary}
-use Rattle.script_runs.proofs.Made.{IsMadeOf, all-made-of}
+use Rattle.script_runs.proofs.Made.{AreWithin, IsMadeOf, all-made-of}
 use Rattle.script_runs.proofs.Registrations.{Keeps, Registration, keeps-ack, keeps-begin, keeps-commit, keeps-deactivate, keeps-deliver, keeps-move, keeps-publish, keeps-purge, keeps-retry, keeps-unsubscribe, registered, registrations}
 use Rattle.script_runs.specs.Told.{is_subscribed, rule_of, rules_of, subscribed_count}
 
@@ -123,7 +96,7 @@ published-grows : (op : Op) (told : Reply) (events : List Event) (passes : Event
 published-grows (op.Publish stream payloads) (reply.Published seq) events passes any = any-append passes events _ any
 published-grows op told events passes any = any
 
-IsImpliedBy-more : (events more : List Event) → ((passes : Event → Bool) → list_any passes events ≡ true → list_any passes more ≡ true)
+IsImpliedBy-more : (events more : List Event) → AreWithin events more
     → (s : SubName) (stream : StreamId) (grain : GrainId) (start : Token) → IsImpliedBy events s stream grain start → IsImpliedBy more s stream grain start
 IsImpliedBy-more events more grows (name.Explicit number) stream grain start is = tt
 IsImpliedBy-more events more grows (name.Implicit kind own) stream grain start is = (is.0, grows (λ event. is_owed stream start event) is.1)
@@ -156,6 +129,22 @@ told-kept history p op out told keeps plain =
       closed = λ kind stream. closes-none history op out.1 (name.Implicit kind stream) (told.closed kind stream) (plain.closed kind stream);
     }
 
+-- whether a registration, a rule or an end of one may be made of an operation that was answered so
+abbrev makes : Op → Reply → Bool
+makes (op.Subscribe stream grain start) (reply.Subscribed number) = true
+makes (op.AddRule kind namespace) (reply.RuleAdded from) = true
+makes (op.Unsubscribe sub) told = true
+makes _ _ = false
+
+plain : (op : Op) (told : Reply) → makes op told ≡ false → IsPlain op told
+plain (op.Subscribe stream grain start) (reply.Subscribed number) none = absurd (cc)
+plain (op.AddRule kind namespace) (reply.RuleAdded from) none = absurd (cc)
+plain (op.Unsubscribe sub) told none = absurd (cc)
+plain op told none = record { rule = refl; given = refl; number = refl; closed = λ kind stream. refl }
+
+told-plain : (history : List Entry) (p : PlainPartition) (op : Op) (out : PlainPartition × Reply) → IsTold history p → Keeps p out → makes op out.1 ≡ false → IsTold (grown history op out.1) out.0
+told-plain history p op out told keeps none = told-kept history p op out told keeps (plain op out.1 none)
+
 -- ---- a subscribe
 
 with_value-absent : (s : SubName) (r : Subscription) (subs : List (SubName × Subscription)) → value_at same_sub s subs ≡ None → with_value same_sub s r subs ≡ subs ++ (s, r) ∷ []
@@ -174,7 +163,7 @@ told-subscribed : (history : List Entry) (p : PlainPartition) (stream : StreamId
 unfolding subscribe_at
 told-subscribed history p stream grain from start position none told =
     cond_both (nat_le p.limits.subs (length p.subs)) _ _ (ToldAfter history (op.Subscribe stream grain from))
-    (λ _. told-kept history p (op.Subscribe stream grain from) (p, reply.TooMany) told (refl, refl, refl) (record { rule = refl; given = refl; number = refl; closed = λ kind stream. refl }))
+    (λ _. told-plain history p (op.Subscribe stream grain from) (p, reply.TooMany) told (refl, refl, refl) refl)
     (λ _. record {
       rules = told.rules ∙ sym (made-same rule_of history (op.Subscribe stream grain from) (reply.Subscribed (suc p.explicit)) refl);
       number = next (subscribed_count history) told.number ∙ sym (count-grown history (op.Subscribe stream grain from) (reply.Subscribed (suc p.explicit)));
@@ -207,7 +196,7 @@ unfolding subscribe
 told-subscribe history p stream grain Latest none told = told-subscribed history p stream grain Latest (batch_token p.batches) p.high none told
 told-subscribe history p stream grain (At token) none told =
     cond_both (token_lt token (low_token p)) _ _ (ToldAfter history (op.Subscribe stream grain (At token)))
-    (λ _. told-kept history p (op.Subscribe stream grain (At token)) (p, _) told (refl, refl, refl) (record { rule = refl; given = refl; number = refl; closed = λ kind stream. refl }))
+    (λ _. told-plain history p (op.Subscribe stream grain (At token)) (p, _) told (refl, refl, refl) refl)
     (λ _. told-subscribed history p stream grain (At token) token (lower_bound p token) none told)
 
 -- ---- an unsubscribe, of which no implicit name is
@@ -236,9 +225,9 @@ told-add_rule : (history : List Entry) (p : PlainPartition) (kind namespace : Li
 unfolding add_rule
 told-add_rule history p kind namespace told =
     cond_both (list_any (λ (rule : Rule). same_name kind rule.kind && same_name namespace rule.namespace) p.rules) _ _ (ToldAfter history (op.AddRule kind namespace))
-    (λ _. told-kept history p (op.AddRule kind namespace) (p, reply.RuleThere) told (refl, refl, refl) (record { rule = refl; given = refl; number = refl; closed = λ kind stream. refl }))
+    (λ _. told-plain history p (op.AddRule kind namespace) (p, reply.RuleThere) told (refl, refl, refl) refl)
     (λ _. cond_both (nat_le p.limits.rules (length p.rules)) _ _ (ToldAfter history (op.AddRule kind namespace))
-    (λ _. told-kept history p (op.AddRule kind namespace) (p, reply.TooMany) told (refl, refl, refl) (record { rule = refl; given = refl; number = refl; closed = λ kind stream. refl }))
+    (λ _. told-plain history p (op.AddRule kind namespace) (p, reply.TooMany) told (refl, refl, refl) refl)
     (λ _. record {
       rules =
           ap (λ rules. rules ++ record { kind = kind; namespace = namespace; from = p.batches } ∷ []) told.rules
@@ -251,18 +240,16 @@ told-add_rule history p kind namespace told =
 
 -- ---- a pull
 
--- a record that rules make of events of a log
-implied-made : (rules : List Rule) (position : ℕ) (events log : List Event) → ((passes : Event → Bool) → list_any passes events ≡ true → list_any passes log ≡ true)
-    → (entry : SubName × Subscription) → IsMadeOf rules position events entry → IsImplied log (registered entry) × (given_of (registered entry) ≡ None)
-implied-made rules position events log within entry made = (
-  subst (λ (r : Subscription). IsImpliedBy log entry.0 r.stream r.grain r.start) (sym made.value)
-      (subst (λ s. IsImpliedBy log s made.stream (record { kind = made.kind; key = made.stream.key }) (batch_token made.from)) (sym made.name)
-      (refl, within (λ event. is_owed made.stream (batch_token made.from) event) made.owed)),
-  ap (λ s. given_name s entry.1.grain) made.name,
-)
-
 abbrev IsOneMore : List Event → SubName × Subscription → Type 0
 IsOneMore log entry = IsImplied log (registered entry) × (given_of (registered entry) ≡ None)
+
+-- a record that rules make of events of a log
+implied-made : (rules : List Rule) (position : ℕ) (log : List Event) (entry : SubName × Subscription) → IsMadeOf rules position log entry → IsOneMore log entry
+implied-made rules position log entry made = (
+  subst (λ (r : Subscription). IsImpliedBy log entry.0 r.stream r.grain r.start) (sym made.value)
+      (subst (λ s. IsImpliedBy log s made.stream (record { kind = made.kind; key = made.stream.key }) (batch_token made.from)) (sym made.name) (refl, made.owed)),
+  ap (λ s. given_name s entry.1.grain) made.name,
+)
 
 pushed-given : (subs : List (SubName × Subscription)) (entry : SubName × Subscription) → given_of (registered entry) ≡ None → filter_map given_of (registrations (subs ++ entry ∷ [])) ≡ filter_map given_of (registrations subs)
 pushed-given subs entry none =
@@ -305,7 +292,7 @@ told-pulled : (history : List Entry) (p : PlainPartition) (generation max_events
 unfolding pull_events
 told-pulled history p generation max_events low high fits told =
     cond_both (nat_lt p.limits.subs (length (subs_with p.rules p.high p.subs (between p.log p.high high)))) _ _ (ToldAfter history (op.Pull generation max_events))
-    (λ _. told-kept history p (op.Pull generation max_events) (p, reply.TooMany) told (refl, refl, refl) (record { rule = refl; given = refl; number = refl; closed = λ kind stream. refl }))
+    (λ _. told-plain history p (op.Pull generation max_events) (p, reply.TooMany) told (refl, refl, refl) refl)
     (λ _. record {
       rules = told.rules ∙ sym (made-same rule_of history (op.Pull generation max_events) _ refl);
       number = told.number ∙ sym (count-same history (op.Pull generation max_events) _ refl);
@@ -316,10 +303,9 @@ told-pulled history p generation max_events low high fits told =
   where
     more : AllByRecursion (IsOneMore (published_events history)) (all_implied p.rules p.high (between p.log p.high high))
     more =
-        All-weaken (IsMadeOf p.rules p.high (between p.log p.high high)) (IsOneMore (published_events history))
-        (implied-made p.rules p.high (between p.log p.high high) (published_events history)
-        (λ passes any. ap (list_any passes) (sym fits.log.log) ∙ between-any p.log p.high high passes any))
-        (all_implied p.rules p.high (between p.log p.high high)) (all-made-of p.rules p.high (between p.log p.high high) fits.names.differ)
+        All-weaken (IsMadeOf p.rules p.high (published_events history)) (IsOneMore (published_events history)) (implied-made p.rules p.high (published_events history))
+        (all_implied p.rules p.high (between p.log p.high high))
+        (all-made-of p.rules p.high (published_events history) (between p.log p.high high) (λ passes any. ap (list_any passes) (sym fits.log.log) ∙ between-any p.log p.high high passes any) fits.names.differ)
 
     next : AreImplied (published_events history) p.subs (subs_with p.rules p.high p.subs (between p.log p.high high))
     next = fold-told (published_events history) p.subs (all_implied p.rules p.high (between p.log p.high high)) more told.implied
@@ -329,7 +315,7 @@ told-pull_want : (history : List Entry) (p : PlainPartition) (generation max_eve
 unfolding pull_want pull_count
 told-pull_want history p generation max_events want fits told =
     cond_both (min want (room p + BLOCK_EVENTS * drops p want) == 0) _ _ (ToldAfter history (op.Pull generation max_events))
-    (λ _. told-kept history p (op.Pull generation max_events) (p, _) told (refl, refl, refl) (record { rule = refl; given = refl; number = refl; closed = λ kind stream. refl }))
+    (λ _. told-plain history p (op.Pull generation max_events) (p, _) told (refl, refl, refl) refl)
     (λ _. told-pulled history p generation max_events (p.low + BLOCK_EVENTS * drops p want) (p.high + min want (room p + BLOCK_EVENTS * drops p want)) fits told)
 
 told-pull : (history : List Entry) (p : PlainPartition) (generation max_events : ℕ) → Fits (summary (reverse history)) p → IsTold history p
@@ -337,44 +323,30 @@ told-pull : (history : List Entry) (p : PlainPartition) (generation max_events :
 unfolding pull
 told-pull history p generation max_events fits told =
     cond_both (is_stale p generation) _ _ (ToldAfter history (op.Pull generation max_events))
-    (λ _. told-kept history p (op.Pull generation max_events) (p, _) told (refl, refl, refl) (record { rule = refl; given = refl; number = refl; closed = λ kind stream. refl }))
+    (λ _. told-plain history p (op.Pull generation max_events) (p, _) told (refl, refl, refl) refl)
     (λ _. cond_both (p.high == length p.log) _ _ (ToldAfter history (op.Pull generation max_events))
-    (λ _. told-kept history p (op.Pull generation max_events) (p, reply.Dry) told (refl, refl, refl) (record { rule = refl; given = refl; number = refl; closed = λ kind stream. refl }))
+    (λ _. told-plain history p (op.Pull generation max_events) (p, reply.Dry) told (refl, refl, refl) refl)
     (λ _. told-pull_want history p generation max_events (min (pull_size max_events) (length p.log - p.high)) fits told))
 
 -- ---- every step
 
 told-step : (history : List Entry) (p : PlainPartition) (o : Op) → Fits (summary (reverse history)) p → IsTold history p → ToldAfter history o (step p o)
 unfolding step
-told-step history p (op.Publish stream payloads) fits told =
-    told-kept history p (op.Publish stream payloads) _ told (keeps-publish p stream payloads) (record { rule = refl; given = refl; number = refl; closed = λ kind stream. refl })
+told-step history p (op.Publish stream payloads) fits told = told-plain history p (op.Publish stream payloads) _ told (keeps-publish p stream payloads) refl
 told-step history p (op.Subscribe stream grain start) fits told =
     told-subscribe history p stream grain start (fits.names.unused (suc p.explicit) (omega arith)) told
 told-step history p (op.Unsubscribe sub) fits told = told-unsubscribe history p sub told
 told-step history p (op.AddRule kind namespace) fits told = told-add_rule history p kind namespace told
 told-step history p (op.Pull generation max_events) fits told = told-pull history p generation max_events fits told
-told-step history p (op.Deliver generation sub) fits told =
-    told-kept history p (op.Deliver generation sub) _ told (keeps-deliver p generation sub) (record { rule = refl; given = refl; number = refl; closed = λ kind stream. refl })
-told-step history p (op.Retry generation sub) fits told =
-    told-kept history p (op.Retry generation sub) _ told (keeps-retry p generation sub) (record { rule = refl; given = refl; number = refl; closed = λ kind stream. refl })
-told-step history p (op.Ack generation sub token) fits told =
-    told-kept history p (op.Ack generation sub token) _ told (keeps-ack p generation sub token) (record { rule = refl; given = refl; number = refl; closed = λ kind stream. refl })
-told-step history p (op.Purge generation keep) fits told =
-    told-kept history p (op.Purge generation keep) _ told (keeps-purge p generation keep) (record { rule = refl; given = refl; number = refl; closed = λ kind stream. refl })
-told-step history p (op.Begin grain max_events) fits told =
-    told-kept history p (op.Begin grain max_events) _ told (keeps-begin p grain max_events) (record { rule = refl; given = refl; number = refl; closed = λ kind stream. refl })
-told-step history p (op.Commit grain activation turn note) fits told =
-    told-kept history p (op.Commit grain activation turn note) _ told (keeps-commit p grain activation turn note) (record { rule = refl; given = refl; number = refl; closed = λ kind stream. refl })
-told-step history p (op.Deactivate grain) fits told =
-    told-kept history p (op.Deactivate grain) _ told (keeps-deactivate p grain) (record { rule = refl; given = refl; number = refl; closed = λ kind stream. refl })
-told-step history p (op.Move silo) fits told =
-    told-kept history p (op.Move silo) _ told (keeps-move p silo) (record { rule = refl; given = refl; number = refl; closed = λ kind stream. refl })
-told-step history p (op.Ready after) fits told =
-    told-kept history p (op.Ready after) (p, _) told (refl, refl, refl) (record { rule = refl; given = refl; number = refl; closed = λ kind stream. refl })
-told-step history p (op.Due after) fits told =
-    told-kept history p (op.Due after) (p, _) told (refl, refl, refl) (record { rule = refl; given = refl; number = refl; closed = λ kind stream. refl })
-told-step history p op.Quiet fits told =
-    told-kept history p op.Quiet (p, _) told (refl, refl, refl) (record { rule = refl; given = refl; number = refl; closed = λ kind stream. refl })
+told-step history p (op.Deliver generation sub) fits told = told-plain history p (op.Deliver generation sub) _ told (keeps-deliver p generation sub) refl
+told-step history p (op.Retry generation sub) fits told = told-plain history p (op.Retry generation sub) _ told (keeps-retry p generation sub) refl
+told-step history p (op.Ack generation sub token) fits told = told-plain history p (op.Ack generation sub token) _ told (keeps-ack p generation sub token) refl
+told-step history p (op.Purge generation keep) fits told = told-plain history p (op.Purge generation keep) _ told (keeps-purge p generation keep) refl
+told-step history p (op.Begin grain max_events) fits told = told-plain history p (op.Begin grain max_events) _ told (keeps-begin p grain max_events) refl
+told-step history p (op.Commit grain activation turn note) fits told = told-plain history p (op.Commit grain activation turn note) _ told (keeps-commit p grain activation turn note) refl
+told-step history p (op.Deactivate grain) fits told = told-plain history p (op.Deactivate grain) _ told (keeps-deactivate p grain) refl
+told-step history p (op.Move silo) fits told = told-plain history p (op.Move silo) _ told (keeps-move p silo) refl
+told-step history p o fits told = told-plain history p o (p, _) told (refl, refl, refl) refl
 
 -- ---- every legal history
 

@@ -1,31 +1,18 @@
 -- Worked rows: what a run of a few scripts prints, by computation, and that a new partition which does what the
 -- producers ask and is drained replies and reports the same.
-use Rattle.std.proofs.Common.{◌≡◌, ℕ, List, [], ◌∷◌, ◌++◌, length, map, zip, refl}
+use Rattle.script_runs.proofs.Prelude.{◌≡◌, ℕ, List, [], ◌∷◌, ◌++◌, length, map, zip, refl, range_with_len, codes, GrainId, StreamId, entries_of, empty, after_steps, replies_of, Limits, Op, Publish, Subscribe, Unsubscribe, Latest, At, PlainPartition, queue_report, Command}
 use Rattle.std.specs.Fmt.{digits}
-use Rattle.std.specs.List.{range_with_len}
-use Rattle.std.specs.Prelude.{codes}
-use Rattle.stream_ident.specs.declared.ident.GrainId.{GrainId}
-use Rattle.stream_ident.specs.declared.ident.StreamId.{StreamId}
 use Rattle.stream_ident.specs.declared.ident.SubName.TheVariants.{Explicit, Implicit}
-use Rattle.stream_model.specs.declared.limits.Limits.{Limits}
-use Rattle.stream_model.specs.declared.op.Op.{Op}
-use Rattle.stream_model.specs.declared.op.Op.TheVariants.{Publish, Subscribe, Unsubscribe}
-use Rattle.stream_model.specs.declared.op.Start.TheVariants.{Latest, At}
-use Rattle.stream_model.specs.declared.plain.PlainPartition.{PlainPartition}
 use Rattle.stream_model.specs.declared.reply.Reply.TheVariants.{IsQuiet}
 use Rattle.stream_model.specs.Draining.{acknowledge, after_deliver, after_pull, deliver_all, deliver_once_more, drain, drain_all, serve, serve_each, take_turn, take_turns}
 use Rattle.stream_model.specs.History.{Entry}
 use Rattle.stream_model.specs.Looks.{quiet}
-use Rattle.stream_model.specs.Positions.{empty}
 use Rattle.stream_model.specs.Publishing.{add_rule, publish, subscribe, subscribe_at, unsubscribe, unsubscribe_from}
 use Rattle.stream_model.specs.Pulling.{ack, ack_of, ack_position, deliver, deliver_position, deliver_to, pull, pull_count, pull_events, pull_want}
-use Rattle.stream_model.specs.Step.{after_steps, replies_of, step}
+use Rattle.stream_model.specs.Step.{step}
 use Rattle.stream_model.specs.Turns.{begin, begin_for, begin_front, begin_in, begin_turn, commit, commit_for, commit_running}
-use Rattle.stream_laws.specs.Laws.{entries_of}
-use Rattle.stream_script.specs.declared.parser.command.Command.{Command}
 use Rattle.stream_script.specs.declared.parser.command.Command.TheVariants.{Step, Each, Drain, Up, Down}
 use Rattle.stream_script.specs.declared.parser.command.EachOp.TheVariants.{Rule}
-use Rattle.stream_script.specs.Report.{queue_report}
 use Rattle.script_runs.specs.declared.reader.script_line.ScriptLine.TheVariants.{Miss, Refused}
 use Rattle.script_runs.specs.ScriptReport.{script_lines, script_text, told_report}
 use Rattle.script_runs.specs.declared.reader.line.Line.{Line}

@@ -1,6 +1,7 @@
 -- What a line of a script does on a cluster.
 use Rattle.std.specs.Prelude.{◌≡◌, ◌⊎◌, ℕ, ◌<◌, ◌≤◌, false, List, [], ◌∷◌, ◌++◌, Option, Some, None, Result, Ok, Err, slice_get}
 use Rattle.std.specs.List.{AllByRecursion, AllZip}
+use Rattle.std.specs.declared.alloc.AllocError.{AllocError}
 use Rattle.queue_balancer.specs.Balance.{HasNoDoubles}
 use Rattle.stream_model.specs.declared.op.Op.{Op}
 use Rattle.stream_model.specs.Replies.{Reply}
@@ -13,6 +14,10 @@ use Rattle.silo_loops.specs.declared.advance.Over.{Over}
 use Rattle.silo_loops.specs.declared.advance.Over.TheVariants as over
 use Rattle.silo_threads.specs.Operators.{OperatorGoesOn}
 use Rattle.silo_threads.specs.Clusters.{ClusterView, HasMetLimit, is_fixed}
+use Rattle.silo_threads.specs.declared.clusters.cluster.SiloDown.{SiloDown}
+use Rattle.silo_threads.specs.declared.clusters.cluster.SiloDown.TheVariants as down
+use Rattle.silo_threads.specs.declared.clusters.cluster.SiloUp.{SiloUp}
+use Rattle.silo_threads.specs.declared.clusters.cluster.SiloUp.TheVariants as up
 use Rattle.silo_threads.specs.declared.ending.asking.Quiet.{Quiet}
 use Rattle.silo_threads.specs.Draining.{HasGoneOn, Looks, LooksAWhile, LooksInVain, LooksQuiet}
 use Rattle.stream_script.specs.declared.parser.command.Command.{Command}
@@ -135,11 +140,28 @@ abbrev pub stop_by : Option LoopEnd → Stop
 stop_by (Some end) = stop_by_over end.over
 stop_by None = stop.Limit
 
--- it was a wait that stopped a line
-abbrev pub IsOfWait : Stop → Type 0
-IsOfWait stop.NotQuiet = Unit {0}
-IsOfWait stop.RoundLimit = Unit {0}
-IsOfWait _ = ⊥
+-- how a line ends whose calls were answered so
+abbrev pub unless_limit : Result Answer AllocError → Result Answer Stop
+unless_limit (Ok answer.Limit) = Err stop.Limit
+unless_limit (Ok taken) = Ok taken
+unless_limit (Err e) = Err stop.Memory
+
+-- how a line ends by which a silo was to come
+abbrev pub came_up : Result SiloUp AllocError → Result Answer Stop
+came_up (Ok up.Up) = Ok answer.Taken
+came_up (Ok up.Already) = Ok answer.Refused
+came_up (Ok up.Limit) = Err stop.Limit
+came_up (Ok up.Halted) = Err stop.Limit
+came_up (Err e) = Err stop.Memory
+
+-- how a line ends by which a silo was to go
+abbrev pub went_down : Result SiloDown AllocError → Result Answer Stop
+went_down (Ok down.Down) = Ok answer.Taken
+went_down (Ok down.NotLive) = Ok answer.Refused
+went_down (Ok down.LastSilo) = Ok answer.Refused
+went_down (Ok down.Limit) = Err stop.Limit
+went_down (Ok down.Halted) = Err stop.Limit
+went_down (Err e) = Err stop.Memory
 
 -- why a wait didn't find all queues quiet
 abbrev pub IsUnquiet : Stop → ℕ → List QueuePass → List QueuePass → Type 0

@@ -1,6 +1,5 @@
 //! One line of a script.
-ghost use Rattle.std.specs.Prelude.{◌≡◌, ◌≢◌, ◌<◌, ◌≤◌, false, length, Ok, IfErr, IfOk, OnErr, OnOk};
-ghost use Rattle.stream_ident.specs.declared.limits.TheConstants.{MOST_SILOS};
+ghost use Rattle.std.specs.Prelude.{◌≡◌, ◌≤◌, false, length, IfErr, IfOk, OnErr, OnOk};
 ghost use Rattle.std.specs.List.{AllZip};
 ghost use Rattle.silo_threads.specs.Calls.{turnstiles};
 ghost use Rattle.silo_threads.specs.Draining.{HasGoneOn, LooksQuiet};
@@ -9,8 +8,8 @@ ghost use Rattle.script_runs.specs.declared.producer.answer.Answer.TheVariants a
 ghost use Rattle.script_runs.specs.Telling.{Tells};
 ghost use Rattle.script_runs.specs.Scripts.{IsRunCommand};
 ghost use Rattle.silo_threads.specs.Operators.{OperatorGoesOn};
-ghost use Rattle.silo_threads.specs.Clusters.{HasMetLimit, is_fixed};
-ghost use Rattle.script_runs.specs.Lines.{ChangesBy, DoesLine, IsOfWait, IsUnquiet, StopsBy, TellsInPart, stop_by};
+ghost use Rattle.silo_threads.specs.Clusters.{is_fixed};
+ghost use Rattle.script_runs.specs.Lines.{DoesLine, IsUnquiet, StopsBy, TellsInPart, came_up, stop_by, unless_limit, went_down};
 
 use crate::producer::{Answer, ask, ask_each};
 use shared_partition::{DirectoryHistory, Gate, QueueHistory};
@@ -32,49 +31,6 @@ pub(crate) enum Stop {
     RoundLimit,
     /// A call or a loop failed to allocate.
     Memory,
-}
-
-// A silo comes by a line.
-fn up<
-    G: Gate + 'static,
-    H: QueueHistory + Send + 'static,
-    D: DirectoryHistory + Send + 'static,
-    R: Threads + Wait + Copy + Send + 'static,
->(rt: &R, alloc: Global, cluster: &mut Cluster<G, H, D>, silo: u8) -> Result<Answer, Stop>
-    requires { silo < MOST_SILOS }
-    ensures changes { IfOk result (λ told. ChangesBy cluster.old (command.Up silo) told cluster.new) }
-    ensures stops { is_fixed cluster.old ≡ false → IfErr result (λ why. ¬ IsOfWait why × (why ≡ Stop.Limit → HasMetLimit cluster.old.operator cluster.new.operator)) }
-    ensures cluster { OperatorGoesOn cluster.old.operator cluster.new.operator }
-{
-    match cluster.silo_up(rt, alloc, silo) {
-        Ok(SiloUp::Up) => Ok(Answer::Taken),
-        Ok(SiloUp::Already) => Ok(Answer::Refused),
-        Ok(SiloUp::Limit) => Err(Stop::Limit),
-        Ok(SiloUp::Halted) => Err(Stop::Limit),
-        Err(_) => Err(Stop::Memory),
-    }
-}
-
-// A silo goes by a line.
-fn down<G: Gate, H: QueueHistory, D: DirectoryHistory, R: Threads + Wait>(
-    rt: &R,
-    alloc: Global,
-    cluster: &mut Cluster<G, H, D>,
-    silo: u8,
-) -> Result<Answer, Stop>
-    requires { silo < MOST_SILOS }
-    ensures changes { IfOk result (λ told. ChangesBy cluster.old (command.Down silo) told cluster.new) }
-    ensures stops { is_fixed cluster.old ≡ false → IfErr result (λ why. ¬ IsOfWait why × (why ≡ Stop.Limit → HasMetLimit cluster.old.operator cluster.new.operator)) }
-    ensures cluster { OperatorGoesOn cluster.old.operator cluster.new.operator }
-{
-    match cluster.silo_down(rt, alloc, silo) {
-        Ok(SiloDown::Down) => Ok(Answer::Taken),
-        Ok(SiloDown::NotLive) => Ok(Answer::Refused),
-        Ok(SiloDown::LastSilo) => Ok(Answer::Refused),
-        Ok(SiloDown::Limit) => Err(Stop::Limit),
-        Ok(SiloDown::Halted) => Err(Stop::Limit),
-        Err(_) => Err(Stop::Memory),
-    }
 }
 
 /// Does one line of a script. A drain is done once each queue was quiet in one look. A line that is stopped may be done
@@ -107,20 +63,46 @@ pub(crate) fn do_line<
             wait_until_quiet(rt, alloc, caller, cluster.looks())?;
             Ok(Answer::Taken)
         }
-        Command::Up { silo } => up(rt, alloc, cluster, silo),
-        Command::Down { silo } => down(rt, alloc, cluster, silo),
+        Command::Up { silo } => came_up(cluster.silo_up(rt, alloc, silo)),
+        Command::Down { silo } => went_down(cluster.silo_down(rt, alloc, silo)),
         Command::Report => Ok(Answer::Taken),
     }
 }
 
 // An answer that isn't a limit.
 fn unless_limit(asked: Result<Answer, AllocError>) -> Result<Answer, Stop>
-    ensures answered { IfOk result (λ taken. (asked ≡ Ok taken) × (taken ≢ answer.Limit)) }
-    ensures stops { IfErr result (λ why. ¬ IsOfWait why × (why ≡ Stop.Limit → asked ≡ Ok answer.Limit)) }
+    ensures { result ≡ unless_limit asked }
 {
     match asked {
         Ok(Answer::Limit) => Err(Stop::Limit),
         Ok(taken) => Ok(taken),
+        Err(_) => Err(Stop::Memory),
+    }
+}
+
+// How a line ends by which a silo was to come.
+fn came_up(up: Result<SiloUp, AllocError>) -> Result<Answer, Stop>
+    ensures { result ≡ came_up up }
+{
+    match up {
+        Ok(SiloUp::Up) => Ok(Answer::Taken),
+        Ok(SiloUp::Already) => Ok(Answer::Refused),
+        Ok(SiloUp::Limit) => Err(Stop::Limit),
+        Ok(SiloUp::Halted) => Err(Stop::Limit),
+        Err(_) => Err(Stop::Memory),
+    }
+}
+
+// How a line ends by which a silo was to go.
+fn went_down(down: Result<SiloDown, AllocError>) -> Result<Answer, Stop>
+    ensures { result ≡ went_down down }
+{
+    match down {
+        Ok(SiloDown::Down) => Ok(Answer::Taken),
+        Ok(SiloDown::NotLive) => Ok(Answer::Refused),
+        Ok(SiloDown::LastSilo) => Ok(Answer::Refused),
+        Ok(SiloDown::Limit) => Err(Stop::Limit),
+        Ok(SiloDown::Halted) => Err(Stop::Limit),
         Err(_) => Err(Stop::Memory),
     }
 }

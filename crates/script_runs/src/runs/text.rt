@@ -1,6 +1,5 @@
 //! The text that goes out of a run.
-ghost use Rattle.std.specs.Prelude.{◌≡◌, ◌++◌, [], IfOk, OnOk};
-ghost use Rattle.std.specs.List.{flat_map};
+ghost use Rattle.std.specs.Prelude.{◌≡◌, ◌++◌, IfOk, OnOk};
 ghost use Rattle.script_runs.specs.ScriptReport.{line_text};
 ghost use Rattle.script_runs.specs.Runs.{text_of};
 

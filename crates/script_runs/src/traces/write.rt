@@ -1,5 +1,5 @@
 //! The line of each operation.
-ghost use Rattle.std.specs.Prelude.{[], ◌∷◌, map, codes};
+ghost use Rattle.std.specs.Prelude.{◌∷◌, map, codes};
 ghost use Rattle.std.specs.List.{flat_map};
 ghost use Rattle.stream_script.specs.Pieces.{Word, Text};
 ghost use Rattle.stream_script.specs.Spelling.{stream_text};

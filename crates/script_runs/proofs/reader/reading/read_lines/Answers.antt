@@ -1,8 +1,7 @@
-use Rattle.std.proofs.Common.{List, Ok, ℕ, ◌∙◌, ap, arith, length, subst, sym}
+use Rattle.script_runs.proofs.Prelude.{List, Ok, ℕ, ◌∙◌, ap, arith, length, subst, sym, IsWithin}
 use Rattle.stream_script.proofs.CutLemmas.{length-lines_of}
 use Rattle.stream_script.specs.declared.parser.command.Parsed.{Parsed}
 use Rattle.stream_script.specs.Lines.{lines_of}
-use Rattle.stream_script.specs.Reading.{IsWithin}
 use Rattle.script_runs.proofs.Finding.{Found, finds, may-run, skips}
 use Rattle.script_runs.proofs.reader.reading.read_lines.Goals as goal
 

@@ -1,4 +1,4 @@
-use Rattle.std.proofs.Common.{◌≡◌, ◌+◌, length}
+use Rattle.script_runs.proofs.Prelude.{◌≡◌, ◌+◌, length}
 use Rattle.stream_script.specs.Lines.{lines_of}
 use Rattle.script_runs.proofs.Finding.{Found}
 use Rattle.script_runs.proofs.reader.reading.read_lines.Given as goal

@@ -1,9 +1,8 @@
-use Rattle.std.proofs.Common.{◌∙◌, List, [], arith, refl, rules, subst, sym}
-use Rattle.std.proofs.lemmas.Result.{IfErr-weaker}
+use Rattle.script_runs.proofs.Prelude.{LooksQuiet, ◌∙◌, List, [], arith, refl, rules, subst, sym, map-id}
+use Rattle.std.proofs.lemmas.Result.{IfErr-weaker, on_ok_weaker}
 use Rattle.std.proofs.lemmas.Grind.{common_steps}
 use Rattle.std.proofs.lemmas.Iterator.Adapters.{YieldsList-from_vec}
 use Rattle.std.proofs.lemmas.Iterator.Consumers.{YieldsList-end, YieldsList-turn}
-use Rattle.silo_threads.specs.Draining.{LooksQuiet}
 use Rattle.silo_threads.proofs.Changing.{op-trans}
 use Rattle.silo_threads.proofs.Making.{passed-on}
 use Rattle.script_runs.specs.declared.runs.line.Stop.{Stop}
@@ -12,7 +11,7 @@ use Rattle.script_runs.specs.Lines.{IsUnquiet}
 use Rattle.script_runs.specs.Runs.{StopsFront}
 use Rattle.stream_script.specs.declared.parser.command.Command.TheVariants as command
 use Rattle.script_runs.specs.declared.reader.script_line.ScriptLine.{ScriptLine}
-use Rattle.script_runs.proofs.Progress.{Progress, begins, does, done-all, line-stopped, map-same, on-all, on-ok, stops-later, wait-stopped}
+use Rattle.script_runs.proofs.Progress.{Progress, begins, does, done-all, line-stopped, on-all, stops-later, wait-stopped}
 use Rattle.script_runs.proofs.Doing.{unquiet-stops}
 use Rattle.script_runs.proofs.Fronts.{done-part}
 use Rattle.script_runs.proofs.runs.running.do_lines.Goals as goal
@@ -91,9 +90,9 @@ returns g c =
     let waits = c.wait_until_quiet.ensures in
     let gives = c.into_iter-line-iterator.ensures.into_iter_gives in
     let ending = YieldsList-end (YieldsList-from_vec {s = c.into_iter-line-iterator.result} c.args.lines.items gives.0 (first_of (search rules, grind (arith, common_steps)))) c.loop-line.yielded c.loop-line.line-iterator c.loop-line.yielded_by c.next.result c.next.new.self c.in-None.is c.next.ensures.steps in
-    let whole = sym (map-same c.loop-line.yielded) ∙ ending.0 in
+    let whole = sym (map-id c.loop-line.yielded) ∙ ending.0 in
     record {
-      all = on-ok c.wait_until_quiet.result (λ (quiet : LooksQuiet c.looks.result c.loop-line.caller c.wait_until_quiet.new.caller). done-all _ _ _ c.loop-line.yielded c.loop-line.printed.items c.loop-line.cluster c.loop-line.caller c.wait_until_quiet.new.caller c.requires.free far whole waits.on waits.told
+      all = on_ok_weaker c.wait_until_quiet.result (λ (quiet : LooksQuiet c.looks.result c.loop-line.caller c.wait_until_quiet.new.caller). done-all _ _ _ c.loop-line.yielded c.loop-line.printed.items c.loop-line.cluster c.loop-line.caller c.wait_until_quiet.new.caller c.requires.free far whole waits.on waits.told
           (subst (λ n. LooksQuiet n c.loop-line.caller c.wait_until_quiet.new.caller) c.looks.ensures quiet)) waits.quiet;
       front =
           IfErr-weaker c.wait_until_quiet.result (λ (h : Stop). IsUnquiet h c.looks.result c.loop-line.caller c.wait_until_quiet.new.caller)

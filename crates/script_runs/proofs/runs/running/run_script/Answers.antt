@@ -1,9 +1,4 @@
-use Rattle.std.proofs.Common.{◌≡◌, ◌∙◌, false, subst, sym}
-use Rattle.silo_threads.proofs.Rows.{zip-refl}
-use Rattle.silo_threads.proofs.Standing.{op-refl}
-use Rattle.silo_threads.specs.Draining.{HasGoneOn}
-use Rattle.silo_threads.proofs.GoneOn.{gone-refl}
-use Rattle.silo_threads.specs.Clusters.{is_fixed}
+use Rattle.script_runs.proofs.Prelude.{gone-refl, zip-refl, op-refl, is_fixed, HasGoneOn, ◌≡◌, ◌∙◌, false, subst, sym}
 use Rattle.script_runs.specs.declared.runs.line.Stop.{Stop}
 use Rattle.script_runs.specs.declared.runs.running.ScriptEnd.{ScriptEnd}
 use Rattle.script_runs.specs.Runs.{EndsScript, StopsFront}

@@ -1,5 +1,4 @@
-use Rattle.std.proofs.Common.{◌≡◌, take}
-use Rattle.std.specs.List.{flat_map}
+use Rattle.script_runs.proofs.Prelude.{◌≡◌, take, flat_map}
 use Rattle.script_runs.specs.ScriptReport.{line_text}
 use Rattle.script_runs.proofs.runs.text.run_text.Given as goal
 

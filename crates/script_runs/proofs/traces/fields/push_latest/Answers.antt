@@ -1,5 +1,4 @@
-use Rattle.std.proofs.Common.{append_assoc}
-use Rattle.stream_script.proofs.Texts.{writes_then}
+use Rattle.script_runs.proofs.Prelude.{append_assoc, writes_then}
 use Rattle.script_runs.proofs.traces.fields.push_latest.Goals as goal
 
 pub returns : goal.returns

@@ -1,8 +1,4 @@
-use Rattle.std.proofs.Common.{◌≡◌, ◌∙◌, ◌++◌, arith, ap, get_or, length, sym}
-use Rattle.std.proofs.lemmas.List.{append-nil}
-use Rattle.stream_model.specs.declared.plain.PlainPartition.{PlainPartition}
-use Rattle.stream_model.specs.Replies.{Reply}
-use Rattle.turnstile.specs.Recorded.{recorded}
+use Rattle.script_runs.proofs.Prelude.{◌≡◌, ◌∙◌, ◌++◌, arith, ap, get_or, length, sym, append-nil, Reply, PlainPartition, recorded}
 use Rattle.step_core.specs.Replied.{reply_with}
 use Rattle.script_runs.specs.Traces.{heading}
 use Rattle.script_runs.proofs.Printing.{printed-all, printed-next}

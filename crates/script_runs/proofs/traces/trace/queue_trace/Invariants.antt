@@ -1,4 +1,4 @@
-use Rattle.turnstile.specs.Recorded.{answered, recorded}
+use Rattle.script_runs.proofs.Prelude.{answered, recorded}
 use Rattle.script_runs.specs.Traces.{heading}
 use Rattle.script_runs.proofs.Printing.{Printed}
 use Rattle.script_runs.proofs.traces.trace.queue_trace.Given as goal

@@ -1,5 +1,5 @@
+use Rattle.script_runs.proofs.Prelude.{writes_then}
 use Rattle.stream_script.specs.Spelling.{stream_text}
-use Rattle.stream_script.proofs.Texts.{writes_then}
 use Rattle.script_runs.proofs.Joining.{publish-joined}
 use Rattle.script_runs.proofs.traces.write.push_publish.Goals as goal
 

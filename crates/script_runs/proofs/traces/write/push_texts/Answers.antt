@@ -1,4 +1,4 @@
-use Rattle.stream_script.proofs.Texts.{writes_failed}
+use Rattle.script_runs.proofs.Prelude.{writes_failed}
 use Rattle.script_runs.proofs.traces.write.push_texts.Goals as goal
 
 pub returns-in_err-push_quoted : goal.returns-in_err-push_quoted

@@ -1,5 +1,4 @@
-use Rattle.std.proofs.Common.{◌≡◌, ◌++◌, take}
-use Rattle.std.specs.List.{flat_map}
+use Rattle.script_runs.proofs.Prelude.{◌≡◌, ◌++◌, take, flat_map}
 use Rattle.script_runs.specs.OpLine.{text_behind}
 use Rattle.script_runs.proofs.traces.write.push_texts.Given as goal
 
