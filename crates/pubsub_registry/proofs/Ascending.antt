@@ -1,12 +1,10 @@
 -- Rows of names from the least to the greatest, with a name put in and with numbers of names taken out.
-use Rattle.pubsub_registry.proofs.Prelude.{◌≡◌, ℕ, zero, suc, ◌≤◌, Bool, true, false, List, [], ◌∷◌, ◌++◌, length, take, drop, get_or, filter, insert, map, if◌then◌else◌, refl, sym, ap, subst, arith, All, Contains, false_from_ne_true, All-nil, All-cons, All-head, All-tail, All-append, All-take, All-drop, Contains-get_or, same_sub-equal, same_sub, sub_lt, SubName}
+use Rattle.pubsub_registry.proofs.Prelude.{◌≡◌, ℕ, zero, suc, ◌≤◌, Bool, true, false, List, [], ◌∷◌, ◌++◌, length, take, drop, get_or, filter, insert, map, if◌then◌else◌, refl, sym, ap, subst, arith, All, Contains, false_from_ne_true, All-nil, All-cons, All-head, All-tail, Contains-get_or, same_sub-equal, same_sub, sub_lt, SubName}
+use Rattle.std.proofs.lemmas.List.Elements.{All-contains, All-filter, All-map}
 use Rattle.pubsub_registry.specs.Ascending.{IsAscending, IsPlaceOf}
 use Rattle.pubsub_registry.specs.Registry.{Rises}
 use Rattle.stream_ident.proofs.NameOrders.{sub_order}
-
-All-insert : (P : SubName → Type 0) (names : List SubName) (at : ℕ) (s : SubName) → All P names → P s → All P (insert names at s)
-All-insert P names at s all here =
-    All-append P (take at names) (s ∷ drop at names) (All-take P at names all) (All-cons P s (drop at names) here (All-drop P at names all))
+use Rattle.pubsub_registry.proofs.Elements.{All-insert, All-known, Contains-map}
 
 pub ascending-insert : (names : List SubName) (s : SubName) (at : ℕ) → IsAscending names → IsPlaceOf names s at → IsAscending (insert names at s)
 ascending-insert names s zero ascending place = (place.after, ascending)
@@ -21,13 +19,9 @@ ascending-insert (x ∷ xs) s (suc at) ascending place =
 
 -- the names of the numbers that are left
 All-left : (P : SubName → Type 0) (name : ℕ → SubName) (test : ℕ → Bool) (row : List ℕ) → All P (map name row) → All P (map name (filter test row))
-All-left P name test [] all = all
-All-left P name test (n ∷ row) all =
-    let rest = All-left P name test row (All-tail P (name n) (map name row) all) in
-    elim (test n) as (λ b. All P (map name (if b then n ∷ filter test row else filter test row))) [
-      | true ↦ All-cons P (name n) (map name (filter test row)) (All-head P (name n) (map name row) all) rest
-      | false ↦ rest
-    ]
+All-left P name test row all =
+    let each = All-known (λ n. P (name n)) row (λ n there. All-contains P (map name row) (name n) all (Contains-map name row n there)) in
+    All-map P name (filter test row) (All-filter test (λ n. P (name n)) row each)
 
 pub ascending-left : (name : ℕ → SubName) (test : ℕ → Bool) (row : List ℕ) → IsAscending (map name row) → IsAscending (map name (filter test row))
 ascending-left name test [] ascending = tt

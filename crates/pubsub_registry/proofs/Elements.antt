@@ -1,5 +1,6 @@
 -- The elements of a list with one put in, or with some taken out, and their places with one put behind.
-use Rattle.pubsub_registry.proofs.Prelude.{◌≡◌, ◌∙◌, ℕ, zero, suc, ◌<◌, Bool, true, false, List, [], ◌∷◌, ◌++◌, length, take, drop, get_or, filter, insert, map, Some, if◌then◌else◌, refl, sym, ap, subst, arith, Contains, true≢false, get_or-map, length-map, take-append-drop, Contains-append_left, Contains-append_right, Contains-append_cases, none-some, same_Some, ◌⊎◌, slice_get, inl, inr}
+use Rattle.pubsub_registry.proofs.Prelude.{◌≡◌, ◌∙◌, ℕ, zero, suc, ◌+◌, Bool, true, List, [], ◌∷◌, ◌++◌, length, take, drop, filter, insert, map, Some, refl, sym, ap, subst, arith, All, Contains, get_or-map, length-map, take-append-drop, All-append, All-cons, All-contains_itself, All-drop, All-take, All-weaker, Contains-append_cases, Contains-append_left, Contains-append_right, filter-append, none-some, same_Some, drop-read, ◌⊎◌, ⊎_elim, slice_get, inl, inr}
+use Rattle.std.proofs.lemmas.List.Elements.{All-contains, All-filter, filter_passes}
 
 module _ {X : Type 0} where
   pub Contains-here : (x : X) (xs : List X) (y : X) → x ≡ y → Contains (x ∷ xs) y
@@ -8,15 +9,13 @@ module _ {X : Type 0} where
   pub Contains-later : (x : X) (xs : List X) (y : X) → Contains xs y → Contains (x ∷ xs) y
   Contains-later x xs y there = Contains-append_right (x ∷ []) xs y there
 
-  cases-at : (x : X) (xs : List X) (y : X) (k : ℕ) → k < length (x ∷ xs) → get_or (x ∷ xs) k y ≡ y → (x ≡ y) ⊎ Contains xs y
-  cases-at x xs y zero within is = inl is
-  cases-at x xs y (suc k) within is = inr (k, omega arith, is)
+  pub All-insert : (P : X → Type 0) (xs : List X) (at : ℕ) (x : X) → All P xs → P x → All P (insert xs at x)
+  All-insert P xs at x all here =
+      All-append P (take at xs) (x ∷ drop at xs) (All-take P at xs all) (All-cons P x (drop at xs) here (All-drop P at xs all))
 
-  pub Contains-cases : (x : X) (xs : List X) (y : X) → Contains (x ∷ xs) y → (x ≡ y) ⊎ Contains xs y
-  Contains-cases x xs y there = cases-at x xs y there.0 there.1 there.2
-
-  pub Contains-none : (x : X) → Contains [] x → ⊥
-  Contains-none x there = let no = there.1 in omega arith
+  -- what holds of all that a list contains
+  pub All-known : (P : X → Type 0) (xs : List X) → ((x : X) → Contains xs x → P x) → All P xs
+  All-known P xs each = All-weaker (Contains xs) P each xs (All-contains_itself xs)
 
   -- one put in
   pub Contains-insert_here : (xs : List X) (at : ℕ) (x : X) → Contains (insert xs at x) x
@@ -24,52 +23,26 @@ module _ {X : Type 0} where
 
   pub Contains-insert : (xs : List X) (at : ℕ) (x y : X) → Contains xs y → Contains (insert xs at x) y
   Contains-insert xs at x y there =
-      by (Contains-append_cases (take at xs) (drop at xs) y (subst (λ l. Contains l y) (sym (take-append-drop at xs)) there))
-    where
-      by : Contains (take at xs) y ⊎ Contains (drop at xs) y → Contains (insert xs at x) y
-      by (inl front) = Contains-append_left (take at xs) (x ∷ drop at xs) y front
-      by (inr behind) = Contains-append_right (take at xs) (x ∷ drop at xs) y (Contains-later x (drop at xs) y behind)
+      ⊎_elim (Contains-append_left (take at xs) (x ∷ drop at xs) y) (λ (behind : Contains (drop at xs) y). Contains-append_right (take at xs) (x ∷ drop at xs) y (Contains-later x (drop at xs) y behind))
+      (Contains-append_cases (take at xs) (drop at xs) y (subst (λ l. Contains l y) (sym (take-append-drop at xs)) there))
 
   pub Contains-insert_cases : (xs : List X) (at : ℕ) (x y : X) → Contains (insert xs at x) y → (x ≡ y) ⊎ Contains xs y
-  Contains-insert_cases xs at x y there = by (Contains-append_cases (take at xs) (x ∷ drop at xs) y there)
-    where
-      whole : Contains (take at xs ++ drop at xs) y → Contains xs y
-      whole = subst (λ l. Contains l y) (take-append-drop at xs)
-
-      behind : (x ≡ y) ⊎ Contains (drop at xs) y → (x ≡ y) ⊎ Contains xs y
-      behind (inl same) = inl same
-      behind (inr later) = inr (whole (Contains-append_right (take at xs) (drop at xs) y later))
-
-      by : Contains (take at xs) y ⊎ Contains (x ∷ drop at xs) y → (x ≡ y) ⊎ Contains xs y
-      by (inl front) = inr (whole (Contains-append_left (take at xs) (drop at xs) y front))
-      by (inr rest) = behind (Contains-cases x (drop at xs) y rest)
+  Contains-insert_cases xs at x y there =
+      All-contains (λ z. (x ≡ z) ⊎ Contains xs z) (insert xs at x) y (All-insert (λ z. (x ≡ z) ⊎ Contains xs z) xs at x (All-known (λ z. (x ≡ z) ⊎ Contains xs z) xs (λ z there. inr there)) (inl refl)) there
 
   -- some taken out
   pub Contains-filter : (test : X → Bool) (xs : List X) (y : X) → Contains xs y → test y ≡ true → Contains (filter test xs) y
-  Contains-filter test [] y there passes = there
-  Contains-filter test (x ∷ xs) y there passes =
-      by (test x) refl (Contains-cases x xs y there) (λ later. Contains-filter test xs y later passes)
-    where
-      by : (b : Bool) → test x ≡ b → (x ≡ y) ⊎ Contains xs y → (Contains xs y → Contains (filter test xs) y) → Contains (if b then x ∷ filter test xs else filter test xs) y
-      by true is (inl same) rest = Contains-here x (filter test xs) y same
-      by true is (inr later) rest = Contains-later x (filter test xs) y (rest later)
-      by false is (inl same) rest = absurd (true≢false (sym passes ∙ sym (ap test same) ∙ is))
-      by false is (inr later) rest = rest later
+  Contains-filter test xs y there passes =
+      let behind = drop (there.0 + 1) xs in
+      let split : xs ≡ take there.0 xs ++ y ∷ behind = sym (take-append-drop there.0 xs) ∙ ap (λ rest. take there.0 xs ++ rest) (drop-read xs there.0 y there.1 (sym there.2)) in
+      subst (λ all. Contains all y) (sym (ap (filter test) split ∙ filter-append test (take there.0 xs) (y ∷ behind)))
+      (Contains-append_right (filter test (take there.0 xs)) (filter test (y ∷ behind)) y (rw passes (Contains-here y (filter test behind) y refl)))
 
   pub Contains-filter_parts : (test : X → Bool) (xs : List X) (y : X) → Contains (filter test xs) y → Contains xs y × (test y ≡ true)
-  Contains-filter_parts test [] y there = absurd (Contains-none y there)
-  Contains-filter_parts test (x ∷ xs) y there = by (test x) refl there (Contains-filter_parts test xs y)
-    where
-      later : Contains xs y × (test y ≡ true) → Contains (x ∷ xs) y × (test y ≡ true)
-      later parts = (Contains-later x xs y parts.0, parts.1)
-
-      first : test x ≡ true → (x ≡ y) ⊎ Contains (filter test xs) y → (Contains (filter test xs) y → Contains xs y × (test y ≡ true)) → Contains (x ∷ xs) y × (test y ≡ true)
-      first passes (inl same) rest = (Contains-here x xs y same, sym (ap test same) ∙ passes)
-      first passes (inr there) rest = later (rest there)
-
-      by : (b : Bool) → test x ≡ b → Contains (if b then x ∷ filter test xs else filter test xs) y → (Contains (filter test xs) y → Contains xs y × (test y ≡ true)) → Contains (x ∷ xs) y × (test y ≡ true)
-      by true is there rest = first is (Contains-cases x (filter test xs) y there) rest
-      by false is there rest = later (rest there)
+  Contains-filter_parts test xs y there = (
+    All-contains (Contains xs) (filter test xs) y (All-filter test (Contains xs) xs (All-contains_itself xs)) there,
+    All-contains (λ x. test x ≡ true) (filter test xs) y (filter_passes test xs) there,
+  )
 
   -- one put behind
   pub slice_get-left : (xs : List X) (y : X) (i : ℕ) (x : X) → slice_get xs i ≡ Some x → slice_get (xs ++ y ∷ []) i ≡ Some x
@@ -85,11 +58,8 @@ module _ {X : Type 0} where
   slice_get-cases [] y zero x is = inr (refl, same_Some y x is)
   slice_get-cases [] y (suc i) x is = absurd (none-some x is)
   slice_get-cases (z ∷ xs) y zero x is = inl is
-  slice_get-cases (z ∷ xs) y (suc i) x is = by (slice_get-cases xs y i x is)
-    where
-      by : (slice_get xs i ≡ Some x) ⊎ ((i ≡ length xs) × (y ≡ x)) → (slice_get xs i ≡ Some x) ⊎ ((suc i ≡ suc (length xs)) × (y ≡ x))
-      by (inl there) = inl there
-      by (inr last) = inr (ap suc last.0, last.1)
+  slice_get-cases (z ∷ xs) y (suc i) x is =
+      ⊎_elim (λ (there : slice_get xs i ≡ Some x). inl there) (λ (last : (i ≡ length xs) × (y ≡ x)). inr (ap suc last.0, last.1)) (slice_get-cases xs y i x is)
 
 -- one of the values of a function at each element
 pub Contains-map : {X Y : Type 0} (f : X → Y) (xs : List X) (x : X) → Contains xs x → Contains (map f xs) (f x)

@@ -1,6 +1,6 @@
 -- Which names the rules make of events.
 use Rattle.pubsub_registry.proofs.Prelude.{◌≡◌, ◌∙◌, ℕ, ◌&&◌, ◌||◌, not, Bool, true, false, List, [], ◌∷◌, ◌++◌, fold, if◌then◌else◌, refl, sym, ap, flat_map, list_any, has, has-append, has-cons, has-fold, same_stream-equal, same_stream-refl, batch_token, added, same_name, same_stream, token_lt, Event, StreamId, SubName, Implicit, Rule}
-use Rattle.std.proofs.Math.Bool.{or-false}
+use Rattle.std.proofs.Math.Bool.{and-false, and-or_distrib_left, and-true, and_comm, or-false, or_assoc, or_comm}
 use Rattle.pubsub_registry.specs.Implying.{all_implied, implied, made, makes_any, names_with}
 use Rattle.pubsub_registry.specs.Registry.{registered}
 use Rattle.pubsub_registry.specs.declared.registration.Registration.{Registration}
@@ -27,37 +27,19 @@ makes kind event rule = same_name kind rule.kind && not (token_lt event.token (b
 has-rule : (kind : List ℕ) (stream : StreamId) (event : Event) (rule : Rule) → has (Implicit kind stream) (made event rule) ≡ same_stream stream event.stream && makes kind event rule
 has-rule kind stream event rule = by (not (token_lt event.token (batch_token rule.from)))
   where
-    both : (kinds streams : Bool) → kinds && streams ≡ streams && (kinds && true)
-    both true true = refl
-    both true false = refl
-    both false true = refl
-    both false false = refl
-
-    none : (kinds streams : Bool) → false ≡ streams && (kinds && false)
-    none true true = refl
-    none true false = refl
-    none false true = refl
-    none false false = refl
-
     by : (holds : Bool) → has (Implicit kind stream) (if holds then entry event rule ∷ [] else []) ≡ same_stream stream event.stream && (same_name kind rule.kind && holds)
-    by true = has-cons (Implicit kind stream) (entry event rule) [] ∙ or-false _ ∙ both (same_name kind rule.kind) (same_stream stream event.stream)
-    by false = none (same_name kind rule.kind) (same_stream stream event.stream)
+    by true =
+        has-cons (Implicit kind stream) (entry event rule) [] ∙ or-false _ ∙ and_comm (same_name kind rule.kind) (same_stream stream event.stream)
+        ∙ ap (λ kinds. same_stream stream event.stream && kinds) (sym (and-true (same_name kind rule.kind)))
+    by false = sym (ap (λ kinds. same_stream stream event.stream && kinds) (and-false (same_name kind rule.kind)) ∙ and-false (same_stream stream event.stream))
 
 -- some rule on the event's namespace makes a stream's subscription of a kind
 has-made : (kind : List ℕ) (stream : StreamId) (event : Event) (rules : List Rule) → has (Implicit kind stream) (flat_map (made event) rules) ≡ same_stream stream event.stream && makes_any kind event rules
-has-made kind stream event [] = none (same_stream stream event.stream)
-  where
-    none : (streams : Bool) → false ≡ streams && false
-    none true = refl
-    none false = refl
+has-made kind stream event [] = sym (and-false (same_stream stream event.stream))
 has-made kind stream event (rule ∷ rules) =
     has-append (Implicit kind stream) (made event rule) (flat_map (made event) rules)
     ∙ (λ i. has-rule kind stream event rule i || has-made kind stream event rules i)
-    ∙ share (same_stream stream event.stream) (makes kind event rule) (makes_any kind event rules)
-  where
-    share : (s x y : Bool) → (s && x) || (s && y) ≡ s && (x || y)
-    share true x y = refl
-    share false x y = refl
+    ∙ sym (and-or_distrib_left (same_stream stream event.stream) (makes kind event rule) (makes_any kind event rules))
 
 -- of an event of the stream
 pub has-of_event : (kind : List ℕ) (event : Event) (rules : List Rule) → has (Implicit kind event.stream) (flat_map (made event) rules) ≡ makes_any kind event rules
@@ -84,11 +66,5 @@ has-so_far names rules before earlier event kind =
     has-fold (Implicit kind event.stream) (names_with rules names earlier) (flat_map (made event) before)
     ∙ (λ i. has-fold (Implicit kind event.stream) names (all_implied rules earlier) i || has-of_event kind event before i)
     ∙ (λ i. (has (Implicit kind event.stream) names || has-of_any kind event.stream rules earlier i) || makes_any kind event before)
-    ∙ by (has (Implicit kind event.stream) names) _ (makes_any kind event before)
-  where
-    by : (x y z : Bool) → (x || y) || z ≡ x || (z || y)
-    by true y z = refl
-    by false true true = refl
-    by false true false = refl
-    by false false true = refl
-    by false false false = refl
+    ∙ or_assoc (has (Implicit kind event.stream) names) _ (makes_any kind event before)
+    ∙ ap (λ made. has (Implicit kind event.stream) names || made) (or_comm _ (makes_any kind event before))

@@ -1,5 +1,5 @@
 -- The index of numbers by stream after a change of the subscriptions.
-use Rattle.pubsub_registry.proofs.Prelude.{◌≡◌, ◌∙◌, ℕ, ◌<◌, Bool, true, false, not, List, [], ◌∷◌, ◌++◌, length, take, drop, get_or, map, Some, filter, insert, nat_eq, if◌then◌else◌, refl, sym, ap, subst, arith, All, Contains, true≢false, drop-map, get_or_append_left, get_or_push, length-map, map-append, All-contains_itself, All-head, All-tail, All-weaker, slice_get_within, take-map, keys_of, ◌⊎◌, slice_get, same_stream-equal, same_stream-refl, same_stream, same_sub, changed_value, StreamId, SubName, inl, inr}
+use Rattle.pubsub_registry.proofs.Prelude.{◌≡◌, ◌∙◌, ℕ, ◌<◌, Bool, true, false, not, List, [], ◌∷◌, ◌++◌, length, take, drop, get_or, map, Some, filter, insert, nat_eq, if◌then◌else◌, refl, sym, ap, subst, arith, All, Contains, true≢false, drop-map, get_or_append_left, get_or_push, length-map, map-append, All-contains_itself, All-head, All-tail, All-weaker, slice_get_within, take-map, keys_of, ⊎_elim, slice_get, same_stream-equal, same_stream-refl, same_stream, same_sub, changed_value, StreamId, SubName}
 use Rattle.std.proofs.lemmas.Bool.Decides.{nat_tests}
 use Rattle.stream_ident.specs.declared.ident.SubName.TheVariants as name
 use Rattle.pubsub_registry.specs.Ascending.{IsAscending, IsPlaceOf}
@@ -36,33 +36,30 @@ module _ (subs : List SubName) (streams : List StreamId) (number : ℕ) (named :
   within : (row : List ℕ) → ((n : ℕ) → Contains row n → slice_get streams n ≡ Some stream) → All (λ n. n < length subs) row
   within row theirs = row-within streams stream row (length subs) (placed ∙ sym named) theirs
 
+  -- what isn't at the last place was there before
+  before : (other : StreamId) (n : ℕ) → (n ≡ number → other ≡ stream → ⊥) → slice_get (streams ++ other ∷ []) n ≡ Some stream → slice_get streams n ≡ Some stream
+  before other n apart there =
+      ⊎_elim (λ (old : slice_get streams n ≡ Some stream). old) (λ (last : (n ≡ length streams) × (other ≡ stream)). absurd (apart (last.0 ∙ placed) last.1)) (slice_get-cases streams other n stream there)
+
   -- which is of the stream
   row-put : (row : List ℕ) (at : ℕ) → IsRowOf subs streams stream row → IsPlaceOf (names_at subs row) s at → IsRowOf (subs ++ s ∷ []) (streams ++ stream ∷ []) stream (insert row at number)
   row-put row at is place = record {
     ascending = subst IsAscending (sym (names-put subs s number row at named (within row is.theirs))) (ascending-insert (names_at subs row) s at is.ascending place);
-    theirs = λ n there. theirs n (Contains-insert_cases row at number n there);
-    complete = λ n there. complete n (slice_get-cases streams stream n stream there);
+    theirs = λ n there.
+        ⊎_elim (λ (same : number ≡ n). subst (λ n. slice_get (streams ++ stream ∷ []) n ≡ Some stream) (placed ∙ same) (slice_get-last streams stream))
+        (λ (there : Contains row n). slice_get-left streams stream n stream (is.theirs n there)) (Contains-insert_cases row at number n there);
+    complete = λ n there.
+        ⊎_elim (λ (there : slice_get streams n ≡ Some stream). Contains-insert row at number n (is.complete n there))
+        (λ (last : (n ≡ length streams) × (stream ≡ stream)). subst (Contains (insert row at number)) (sym (last.0 ∙ placed)) (Contains-insert_here row at number)) (slice_get-cases streams stream n stream there);
   }
-    where
-      theirs : (n : ℕ) → (number ≡ n) ⊎ Contains row n → slice_get (streams ++ stream ∷ []) n ≡ Some stream
-      theirs n (inl same) = subst (λ n. slice_get (streams ++ stream ∷ []) n ≡ Some stream) (placed ∙ same) (slice_get-last streams stream)
-      theirs n (inr there) = slice_get-left streams stream n stream (is.theirs n there)
-
-      complete : (n : ℕ) → (slice_get streams n ≡ Some stream) ⊎ ((n ≡ length streams) × (stream ≡ stream)) → Contains (insert row at number) n
-      complete n (inl there) = Contains-insert row at number n (is.complete n there)
-      complete n (inr last) = subst (Contains (insert row at number)) (sym (last.0 ∙ placed)) (Contains-insert_here row at number)
 
   -- or of another stream
   row-put_other : (row : List ℕ) (other : StreamId) → (other ≡ stream → ⊥) → IsRowOf subs streams stream row → IsRowOf (subs ++ s ∷ []) (streams ++ other ∷ []) stream row
   row-put_other row other apart is = record {
     ascending = subst IsAscending (sym (names-kept subs s row (within row is.theirs))) is.ascending;
     theirs = λ n there. slice_get-left streams other n stream (is.theirs n there);
-    complete = λ n there. complete n (slice_get-cases streams other n stream there);
+    complete = λ n there. is.complete n (before other n (λ _. apart) there);
   }
-    where
-      complete : (n : ℕ) → (slice_get streams n ≡ Some stream) ⊎ ((n ≡ length streams) × (other ≡ stream)) → Contains row n
-      complete n (inl there) = is.complete n there
-      complete n (inr last) = absurd (apart last.1)
 
   -- and without it
   row-cut : (row : List ℕ) → IsRowOf (subs ++ s ∷ []) (streams ++ stream ∷ []) stream row → IsRowOf subs streams stream (filter (λ n. not (nat_eq n number)) row)
@@ -78,17 +75,13 @@ module _ (subs : List SubName) (streams : List StreamId) (number : ℕ) (named :
       stays : (n : ℕ) → n < length streams → left n ≡ true
       stays n inside = let before : n < number = omega (arith, placed, inside) in grind (arith, nat_tests)
 
-      goes : (n : ℕ) → n ≡ length streams → left n ≡ true → ⊥
-      goes n last stays = let same : n ≡ number = last ∙ placed in grind (arith, nat_tests)
-
-      by : (n : ℕ) → left n ≡ true → (slice_get streams n ≡ Some stream) ⊎ ((n ≡ length streams) × (stream ≡ stream)) → slice_get streams n ≡ Some stream
-      by n stays (inl there) = there
-      by n stays (inr last) = absurd (goes n last.0 stays)
+      goes : (n : ℕ) → n ≡ number → left n ≡ true → ⊥
+      goes n same stays = grind (arith, nat_tests)
 
       theirs : (n : ℕ) → Contains (filter left row) n → slice_get streams n ≡ Some stream
       theirs n there =
           let parts = Contains-filter_parts left row n there in
-          by n parts.1 (slice_get-cases streams stream n stream (is.theirs n parts.0))
+          before stream n (λ (same : n ≡ number) _. goes n same parts.1) (is.theirs n parts.0)
 
   row-cut_other : (row : List ℕ) (other : StreamId) → (other ≡ stream → ⊥) → IsRowOf (subs ++ s ∷ []) (streams ++ other ∷ []) stream row → IsRowOf subs streams stream row
   row-cut_other row other apart is = record {
@@ -97,12 +90,8 @@ module _ (subs : List SubName) (streams : List StreamId) (number : ℕ) (named :
     complete = λ n there. is.complete n (slice_get-left streams other n stream there);
   }
     where
-      by : (n : ℕ) → (slice_get streams n ≡ Some stream) ⊎ ((n ≡ length streams) × (other ≡ stream)) → slice_get streams n ≡ Some stream
-      by n (inl there) = there
-      by n (inr last) = absurd (apart last.1)
-
       theirs : (n : ℕ) → Contains row n → slice_get streams n ≡ Some stream
-      theirs n there = by n (slice_get-cases streams other n stream (is.theirs n there))
+      theirs n there = before other n (λ _. apart) (is.theirs n there)
 
 apart-from : (stream other : StreamId) → same_stream stream other ≡ false → stream ≡ other → ⊥
 apart-from stream other isnt same =

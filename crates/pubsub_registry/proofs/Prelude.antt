@@ -1,6 +1,6 @@
 -- The words of other crates that these proofs share, each with its home.
 pub use Rattle.indexmap.proofs.CallerLemmas.{insert_entry-new, keys-with_value_at, updates-with_value_at}
-pub use Rattle.std.proofs.Common.{All, Bool, Contains, List, None, Option, Some, SomeIff, [], ap, arith, cond, drop, false, filter, fold, get_or, if◌then◌else◌, insert, is_some, length, length-append, length-take, map, nat_eq, nat_le, not, refl, rules, subst, suc, sym, take, true, true≢false, zero, ℕ, ◌&&◌, ◌*◌, ◌++◌, ◌+◌, ◌-◌, ◌<◌, ◌==◌, ◌^◌, ◌||◌, ◌∙◌, ◌∷◌, ◌≡◌, ◌≤◌}
+pub use Rattle.std.proofs.Common.{All, Bool, Contains, List, None, Option, Some, SomeIff, [], ap, arith, cond, drop, false, filter, fold, get_or, if◌then◌else◌, insert, is_some, length, length-append, length-take, map, nat_eq, nat_le, not, refl, rules, subst, suc, sym, take, true, true≢false, zero, ⊎_elim, ℕ, ◌&&◌, ◌*◌, ◌++◌, ◌+◌, ◌-◌, ◌<◌, ◌==◌, ◌^◌, ◌||◌, ◌∙◌, ◌∷◌, ◌≡◌, ◌≤◌}
 pub use Rattle.std.proofs.lemmas.Bool.{and_from, and_parts, cases_order, eq-eqb, eqb-true, false_from_ne_true, le-leb, le-ltb, leb-false, ltb-false}
 pub use Rattle.std.proofs.lemmas.List.{append-nil, drop-map, get_or-map, get_or_append_left, get_or_default, get_or_push, length-map, map-append, nil_from_length, take-append-drop, take_all}
 pub use Rattle.std.proofs.lemmas.List.Elements.{All-append, All-cons, All-contains_itself, All-drop, All-head, All-nil, All-same, All-tail, All-take, All-weaker, Contains-append_cases, Contains-append_left, Contains-append_right, Contains-get_or, Contains-push_cases, filter-append}

@@ -1,11 +1,14 @@
 -- Registries that are sound after a change of the subscriptions.
-use Rattle.pubsub_registry.proofs.Prelude.{◌≡◌, ◌∙◌, ℕ, suc, ◌+◌, ◌^◌, ◌≤◌, ◌<◌, Bool, true, false, ◌||◌, nat_le, if◌then◌else◌, [], ◌∷◌, ◌++◌, length, take, drop, Option, Some, None, refl, sym, ap, subst, arith, Contains, length-append, length-take, leb-false, map-append, take-append-drop, Contains-append_left, Contains-push_cases, take-map, lookup, ◌⊎◌, same_sub, changed_value, value_at, StreamId, SubName, inl, inr}
+use Rattle.pubsub_registry.proofs.Prelude.{◌≡◌, ◌∙◌, ℕ, suc, ◌+◌, ◌^◌, ◌≤◌, ◌<◌, Bool, true, false, ◌||◌, nat_le, if◌then◌else◌, [], ◌∷◌, ◌++◌, length, take, drop, Some, None, refl, sym, ap, subst, arith, Contains, length-append, length-take, leb-false, map-append, take-append-drop, Contains-append_left, Contains-push_cases, take-map, false_from_ne_true, same_sub-equal, ⊎_elim, same_sub, changed_value, value_at, StreamId, SubName}
+use Rattle.std.proofs.lemmas.List.Elements.{recursion_from_All}
+use Rattle.std.proofs.lemmas.Map.{lookup-none}
 use Rattle.stream_ident.specs.declared.ident.SubName.TheVariants as name
 use Rattle.pubsub_registry.specs.Index.{streams_of}
 use Rattle.pubsub_registry.specs.Registry.{PlainRegistry, is_full, next_number, closed_registration}
 use Rattle.pubsub_registry.specs.Sound.{IsSound}
 use Rattle.pubsub_registry.specs.declared.registration.Registration.{Registration}
-use Rattle.pubsub_registry.proofs.Entries.{Names, streams_of-found, map-closed, length-closed}
+use Rattle.pubsub_registry.proofs.Elements.{All-known, Contains-map}
+use Rattle.pubsub_registry.proofs.Entries.{Names, map-closed, length-closed}
 
 -- a name with its stream
 abbrev stream_of : SubName × Registration → SubName × StreamId
@@ -17,13 +20,17 @@ IsNumbered names most = (number : ℕ) (stream : StreamId) → Contains (streams
 
 -- a greater number was not given
 pub new-number : (r : PlainRegistry) → IsSound r → (number : ℕ) → r.explicit < number → value_at same_sub (name.Explicit number) r.names ≡ None
-new-number r sound number greater = by (lookup (same_sub (name.Explicit number)) r.names) refl
+new-number r sound number greater =
+    lookup-none (same_sub s) r.names (recursion_from_All (λ (entry : SubName × Registration). same_sub s entry.0 ≡ false) r.names (All-known (λ (entry : SubName × Registration). same_sub s entry.0 ≡ false) r.names apart))
   where
-    by : (found : Option Registration) → lookup (same_sub (name.Explicit number)) r.names ≡ found → lookup (same_sub (name.Explicit number)) r.names ≡ None
-    by None is = is
-    by (Some registration) is =
-        let within : number ≤ r.explicit = sound.numbered number registration.stream (streams_of-found r.names (name.Explicit number) registration is) in
-        absurd (omega arith)
+    s : SubName
+    s = name.Explicit number
+
+    apart : (entry : SubName × Registration) → Contains r.names entry → same_sub s entry.0 ≡ false
+    apart entry there = false_from_ne_true (same_sub s entry.0) (λ same.
+        let own = subst (λ s. Contains (streams_of r.names) (s, entry.1.stream)) (sym (same_sub-equal s entry.0 same)) (Contains-map stream_of r.names entry there) in
+        let fits : number ≤ r.explicit = sound.numbered number entry.1.stream own in
+        omega arith)
 
 -- a number is given where there is room, and is one more than the last
 pub given-number : (r : PlainRegistry) (number : ℕ) → next_number r ≡ Some number → (is_full r ≡ false) × (number ≡ suc r.explicit)
@@ -37,11 +44,9 @@ given-number r number = by (is_full r) (nat_le (2 ^ 32) (suc r.explicit)) refl
 pub numbered-push : (names : Names) (s : SubName) (registration : Registration) (most more : ℕ) → IsNumbered names most → most ≤ more
     → ((number : ℕ) → s ≡ name.Explicit number → number ≤ more) → IsNumbered (names ++ (s, registration) ∷ []) more
 numbered-push names s registration most more numbered rises own number stream there =
-    by (Contains-push_cases (streams_of names) (s, registration.stream) (name.Explicit number, stream) (subst (λ streams. Contains streams (name.Explicit number, stream)) (map-append stream_of names ((s, registration) ∷ [])) there))
-  where
-    by : Contains (streams_of names) (name.Explicit number, stream) ⊎ (◌≡◌ {A = SubName × StreamId} (s, registration.stream) (name.Explicit number, stream)) → number ≤ more
-    by (inl before) = let within : number ≤ most = numbered number stream before in omega arith
-    by (inr same) = own number (ap (λ (p : SubName × StreamId). p.0) same)
+    ⊎_elim (λ (before : Contains (streams_of names) (name.Explicit number, stream)). let within = numbered number stream before in omega (arith, within))
+    (λ (same : ◌≡◌ {A = SubName × StreamId} (s, registration.stream) (name.Explicit number, stream)). own number (ap (λ (p : SubName × StreamId). p.0) same))
+    (Contains-push_cases (streams_of names) (s, registration.stream) (name.Explicit number, stream) (subst (λ streams. Contains streams (name.Explicit number, stream)) (map-append stream_of names ((s, registration) ∷ [])) there))
 
 module _ (r : PlainRegistry) (sound : IsSound r) where
   -- with other names

@@ -6,7 +6,7 @@ use Rattle.pubsub_registry.specs.Registry.{PlainRegistry, AreSubsOf}
 use Rattle.pubsub_registry.specs.declared.registration.Registration.{Registration}
 use Rattle.pubsub_registry.proofs.Ascending.{rises}
 use Rattle.pubsub_registry.proofs.Elements.{Contains-map}
-use Rattle.pubsub_registry.proofs.Entries.{Names, streams_of-none}
+use Rattle.pubsub_registry.proofs.Entries.{Names, unfound}
 use Rattle.pubsub_registry.proofs.IndexLemmas.{row-within, stream_in}
 use Rattle.pubsub_registry.proofs.PackedLemmas.{key-slice}
 
@@ -57,8 +57,7 @@ module _ (names : Names) (stream : StreamId) (row : List ℕ) (is : AreNumbersOf
   -- a name that isn't found is not among them
   pub not-among : (s : SubName) → lookup (same_sub s) names ≡ None → Contains (names_at (keys_of names) row) s → ⊥
   not-among s none there =
-      let found = entry-of s there in
-      streams_of-none names s found.0.stream none (Contains-map (λ (entry : SubName × Registration). (entry.0, entry.1.stream)) names (s, found.0) found.1.0)
+      let found = entry-of s there in unfound names s found.0 none found.1.0
 
 pub subs-of : (r : PlainRegistry) (stream : StreamId) (row : List ℕ) → AreNumbersOf r.names stream row → AreSubsOf r stream (names_at (keys_of r.names) row)
 subs-of r stream row are = record {
