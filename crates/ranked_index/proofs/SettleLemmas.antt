@@ -1,8 +1,8 @@
 -- Nodes that are made the lesser of their children, row by row.
 use Rattle.std.proofs.Common.{◌≡◌, ◌≢◌, ℕ, ◌+◌, ◌*◌, ◌/◌, ◌<◌, ◌≤◌, ◌⊎◌, inl, inr, List, length, set, sym, ap, ap₂, ◌∙◌, subst, arith, length-set, get_or-set_same, get_or-set_other}
-use Rattle.std.proofs.lemmas.Bool.{cases_eq}
+use Rattle.std.proofs.lemmas.Bool.{cases_eq, cases_lt}
 use Rattle.ranked_index.specs.declared.tree.Node.{Node}
-use Rattle.ranked_index.specs.Tree.{lesser_node, zero_node, node_at, IsLesser}
+use Rattle.ranked_index.specs.Tree.{lesser_node, zero_node, node_at, IsLesser, IsTreeBut}
 
 -- a row from first to last, settled up to a place: only the nodes from there on, and the parents of the row,
 -- may not be the lesser of their children
@@ -44,3 +44,15 @@ settled_step first last at n nodes is from to settled = record {
             ]
       ];
 }
+
+-- a row of one node
+pub settled_node : (at : ℕ) (n : Node) (nodes : List Node) → n ≡ lesser_node (node_at nodes (2 * at)) (node_at nodes (2 * at + 1)) → IsTreeBut at at nodes → IsTreeBut (at / 2) (at / 2) (set nodes at n)
+settled_node at n nodes is tree =
+    let row : IsSettled at at at nodes = record {
+      lesser = λ x some inner outside _. elim outside [ inl before ↦ tree.before x some inner before | inr past ↦ tree.past x some inner past ];
+    } in
+    let written = settled_step at at at n nodes is (omega arith) (omega arith) row in
+    record {
+      before = λ x some inner before. written.lesser x some inner (inl (omega arith)) (inl before);
+      past = λ x some inner past. written.lesser x some inner (elim (cases_lt at x) [ inl above ↦ inr above | inr below ↦ inl (omega arith) ]) (inr past);
+    }

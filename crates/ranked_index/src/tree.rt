@@ -248,11 +248,11 @@ fn settle_path(nodes: &mut [Node], mut at: usize)
     ensures past { (place : ℕ) → at < place → drop place nodes.new ≡ drop place nodes.old }
 {
     while at > 0 {
-        let node = nodes[at];
-        if node == lesser(nodes[2 * at], nodes[2 * at + 1]) {
+        let node = lesser(nodes[2 * at], nodes[2 * at + 1]);
+        if nodes[at] == node {
             return;
         }
-        settle_row(nodes, at, at);
+        nodes[at] = node;
         at /= 2;
     }
 }
