@@ -1,5 +1,5 @@
 -- A subscription that is added leaves parts that agree with each other.
-use Rattle.step_core.proofs.Prelude.{PlainRegistry, add_with, is_full, next_number, registered, with_name, Registration, Added, ◌≡◌, ◌∙◌, ap, sym, subst, refl, ℕ, suc, ◌+◌, ◌^◌, ◌<◌, ◌≤◌, Bool, true, false, ◌||◌, nat_le, [], ◌∷◌, ◌++◌, length, Option, None, Some, arith, false_from_ne_true, leb-true, length-append, if◌then◌else◌, GrainId, StreamId, SubName, MOST_SUBS, Token, Reply, takes_memory, PlainPartition, AreRecords, PlainTable, subscribe, subscribed}
+use Rattle.step_core.proofs.Prelude.{PlainRegistry, add_with, is_full, next_number, registered, with_name, Registration, Added, ◌≡◌, ◌∙◌, ap, sym, subst, refl, ℕ, suc, ◌+◌, ◌^◌, ◌<◌, ◌≤◌, Bool, true, false, ◌||◌, nat_le, ◌∷◌, ◌++◌, length, Option, None, Some, arith, false_from_ne_true, leb-true, length-append, if◌then◌else◌, GrainId, StreamId, SubName, MOST_SUBS, Token, Reply, takes_memory, PlainPartition, AreRecords, PlainTable, subscribe, subscribed, []}
 use Rattle.std.proofs.Common.{is_some}
 use Rattle.stream_ident.specs.declared.ident.SubName.TheVariants as name
 use Rattle.stream_model.specs.Publishing as plain
@@ -10,6 +10,7 @@ use Rattle.step_core.specs.declared.parts.Parts.{Parts}
 use Rattle.step_core.proofs.KnownTurns.{known-grown}
 use Rattle.step_core.proofs.MoreNumbers.{numbered-more}
 use Rattle.step_core.proofs.SubscribeOps.{added_by, added_where, subscribe-parts}
+use Rattle.std.proofs.Math.Bool.{or-false}
 
 module _ (parts : Parts) (stream : StreamId) (grain : GrainId) (start : Token) (position : ℕ) where
   abbrev r : PlainRegistry
@@ -31,11 +32,7 @@ module _ (parts : Parts) (stream : StreamId) (grain : GrainId) (start : Token) (
   subscribe-is : Agrees parts → subscribe parts.subs stream grain start position ≡ subscribed parts.subs position start (picked (is_full r))
   subscribe-is agrees =
       ap {B = PlainTable × Added} (λ late. subscribed parts.subs position start (add_with r stream grain start (if is_full r || late then None else Some (suc r.explicit)))) (number-left agrees)
-      ∙ by (is_full r)
-    where
-      by : (full : Bool) → ◌≡◌ {A = PlainTable × Added} (subscribed parts.subs position start (add_with r stream grain start (if full || false then None else Some (suc r.explicit)))) (subscribed parts.subs position start (picked full))
-      by true = refl
-      by false = refl
+      ∙ ap {B = PlainTable × Added} (λ full. subscribed parts.subs position start (picked full)) (or-false (is_full r))
 
   full-not : is_some (next_number r) ≡ true → is_full r ≡ false
   full-not left = by (is_full r) (nat_le (2 ^ 32) (suc r.explicit)) left
@@ -71,6 +68,8 @@ module _ (parts : Parts) (stream : StreamId) (grain : GrainId) (start : Token) (
   added-assembled-by : (full : Bool) → AreRecords parts.subs → IsAssembled parts → IsAssembled (record parts { subs = (subscribed parts.subs position start (picked full)).0 })
   added-assembled-by true records assembled = assembled
   added-assembled-by false records assembled =
+      let entry : SubName × Registration = (name.Explicit (suc r.explicit), registered stream grain start) in
+      let longer : length r.names ≤ length (r.names ++ entry ∷ []) = omega (arith, length-append r.names (entry ∷ [])) in
       record {
         most_subs = assembled.most_subs;
         most_rules = assembled.most_rules;
@@ -79,12 +78,6 @@ module _ (parts : Parts) (stream : StreamId) (grain : GrainId) (start : Token) (
         numbered = numbered-more (length r.names) (length more.names) longer parts.grains assembled.numbered;
         known = known-grown r.names (entry ∷ []) parts.subs.states position parts.grains assembled.known records.long assembled.numbered;
       }
-    where
-      entry : SubName × Registration
-      entry = (name.Explicit (suc r.explicit), registered stream grain start)
-
-      longer : length r.names ≤ length (r.names ++ entry ∷ [])
-      longer = omega (arith, length-append r.names (entry ∷ []))
 
   pub added-assembled : Agrees parts → IsAssembled (record parts { subs = (subscribe parts.subs stream grain start position).0 })
   added-assembled agrees =

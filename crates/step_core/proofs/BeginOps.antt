@@ -32,33 +32,27 @@ begin-keeps a past turn max_events = begin-any (Keeps a) a past turn max_events 
 abbrev pub with_grains : Parts → PlainGrains → Parts
 with_grains parts grains = record parts { grains = grains }
 
+grains-kept : (parts : Parts) (i : ℕ) (now : PlainActivation) → now ≡ activation_at parts.grains i → parts.grains ≡ change_at (λ _. now) i parts.grains
+grains-kept parts i now same = sym (ap (λ a. change_at (λ _. a) i parts.grains) same ∙ change_at-kept i parts.grains no_grain)
+
 begun-told : (parts : Parts) (i : ℕ) (stepped : PlainActivation × Begun) → Keeps (activation_at parts.grains i) stepped
     → begun_by parts i stepped
     ≡ (plain_of (after_begun (with_grains parts (change_at (λ _. stepped.0) i parts.grains)) stepped.1), of_begun parts (activation_at parts.grains i).number stepped.1)
-begun-told parts i (now, told) kept = by told kept
-  where
-    stays : now ≡ activation_at parts.grains i → parts.grains ≡ change_at (λ _. now) i parts.grains
-    stays same = sym (ap (λ a. change_at (λ _. a) i parts.grains) same ∙ change_at-kept i parts.grains no_grain)
-
-    by : (told : Begun) → Keeps (activation_at parts.grains i) (now, told)
-        → begun_by parts i (now, told)
-        ≡ (plain_of (after_begun (with_grains parts (change_at (λ _. now) i parts.grains)) told), of_begun parts (activation_at parts.grains i).number told)
-    by begun.Busy kept = ap (λ grains. (plain_of (with_grains parts grains), reply.Busy)) (stays kept)
-    by begun.Empty kept = ap (λ grains. (plain_of (with_grains parts grains), reply.Empty)) (stays kept)
-    by (begun.Dropped d) kept = ap (λ s. (plain_of (with_grains parts (change_at (λ _. now) i parts.grains)), reply.Dropped s (token_at (plain_of parts) d.position))) (name-same parts.subs d.sub)
-    by (begun.Turn sub positions) kept =
-        ap (λ s. (plain_of (after_begun (with_grains parts (change_at (λ _. now) i parts.grains)) (begun.Turn sub positions)), reply.Turn s (activation_at parts.grains i).number (suc parts.turns) (events_at parts.queue.events positions) (state_at parts.subs sub).note))
-        (name-same parts.subs sub)
+begun-told parts i (now, begun.Busy) kept = ap (λ grains. (plain_of (with_grains parts grains), reply.Busy)) (grains-kept parts i now kept)
+begun-told parts i (now, begun.Empty) kept = ap (λ grains. (plain_of (with_grains parts grains), reply.Empty)) (grains-kept parts i now kept)
+begun-told parts i (now, begun.Dropped d) kept =
+    ap (λ s. (plain_of (with_grains parts (change_at (λ _. now) i parts.grains)), reply.Dropped s (token_at (plain_of parts) d.position))) (name-same parts.subs d.sub)
+begun-told parts i (now, begun.Turn sub positions) kept =
+    ap (λ s. (plain_of (after_begun (with_grains parts (change_at (λ _. now) i parts.grains)) (begun.Turn sub positions)), reply.Turn s (activation_at parts.grains i).number (suc parts.turns) (events_at parts.queue.events positions) (state_at parts.subs sub).note))
+    (name-same parts.subs sub)
 
 -- the parts with these grains, where these parts reply
 abbrev pub out_of : Parts → Parts → ℕ → Begun → PlainPartition × Reply
 out_of parts replying activation told = (plain_of (after_begun parts told), of_begun replying activation told)
 
 reply-alone : (parts : Parts) (grains : PlainGrains) (activation : ℕ) (told : Begun) → out_of (with_grains parts grains) parts activation told ≡ out_of (with_grains parts grains) (with_grains parts grains) activation told
-reply-alone parts grains activation begun.Busy = refl
-reply-alone parts grains activation begun.Empty = refl
-reply-alone parts grains activation (begun.Dropped d) = refl
 reply-alone parts grains activation (begun.Turn sub positions) = refl
+reply-alone parts grains activation _ = refl
 
 -- what the table of the grains does and tells, and the reply to it, is what the plain partition does
 pub begin-told : (parts : Parts) (g : GrainId) (i max_events past_front turn : ℕ) (grains : PlainGrains) (told : Begun)
@@ -137,20 +131,17 @@ begin-below n past turn max_events a below =
     waiting d ds is = subst (AllByRecursion (λ (d : Delivery). d.sub < n)) is below.waiting
 
 -- the parts stay assembled
+after-assembled : (parts : Parts) (told : Begun) → IsAssembled parts → IsAssembled (after_begun parts told)
+after-assembled parts (begun.Turn sub positions) assembled = turns-known parts (suc parts.rises) (suc parts.turns) assembled
+after-assembled parts _ assembled = assembled
+
 pub begin-assembled : (parts : Parts) (i past max_events : ℕ) (turn : ℕ) (grains : PlainGrains) (told : Begun) → IsAssembled parts → i < length parts.grains → grains ≡ change_at (λ a. (begin a past turn max_events).0) i parts.grains → IsAssembled (after_begun (with_grains parts grains) told)
-begin-assembled parts i past max_events turn grains told assembled within is_grains = by told
-  where
-    below : AllByRecursion (λ (entry : GrainId × PlainActivation). IsBelow (length parts.subs.registry.names) entry.1) grains
-    below = subst (λ (grains : PlainGrains). AllByRecursion (λ entry. IsBelow (length parts.subs.registry.names) entry.1) grains) (sym is_grains) (All-change_at (IsBelow (length parts.subs.registry.names)) (λ a. (begin a past turn max_events).0) i parts.grains (begin-below (length parts.subs.registry.names) past turn max_events) assembled.numbered)
-
-    known : AreKnown parts.subs.registry.names parts.subs.states grains
-    known =
-        subst (AreKnown parts.subs.registry.names parts.subs.states) (sym is_grains)
-        (known-grain parts.subs.registry.names parts.subs.states parts.grains i (λ a. (begin a past turn max_events).0) assembled.known within
-        (begin-subs (activation_at parts.grains i) past turn max_events) (λ n none. begin-holds n (activation_at parts.grains i) past turn max_events none))
-
-    by : (told : Begun) → IsAssembled (after_begun (with_grains parts grains) told)
-    by begun.Busy = grains-known parts grains assembled below known
-    by begun.Empty = grains-known parts grains assembled below known
-    by (begun.Dropped d) = grains-known parts grains assembled below known
-    by (begun.Turn sub positions) = turns-known (with_grains parts grains) (suc parts.rises) (suc parts.turns) (grains-known parts grains assembled below known)
+begin-assembled parts i past max_events turn grains told assembled within is_grains =
+    let names = parts.subs.registry.names in
+    after-assembled (with_grains parts grains) told
+    (grains-known parts grains assembled
+    (subst (λ (grains : PlainGrains). AllByRecursion (λ entry. IsBelow (length names) entry.1) grains) (sym is_grains)
+    (All-change_at (IsBelow (length names)) (λ a. (begin a past turn max_events).0) i parts.grains (begin-below (length names) past turn max_events) assembled.numbered))
+    (subst (AreKnown names parts.subs.states) (sym is_grains)
+    (known-grain names parts.subs.states parts.grains i (λ a. (begin a past turn max_events).0) assembled.known within
+    (begin-subs (activation_at parts.grains i) past turn max_events) (λ n none. begin-holds n (activation_at parts.grains i) past turn max_events none))))

@@ -39,7 +39,7 @@ caught-up parts t number stands free reach searched =
       record_of = r;
       found = found;
       served = λ n g. subst (λ (q : PlainPartition). Ends p q (Some None) (serve_up_to n s g p)) (sym is)
-          (served-caught p s r stands.agrees.reached found searched.1 (sought-next parts number None stands searched.1 searched.2) free reach n g);
+          (served-caught p s r stands.agrees.reached found searched.1 (sought-next parts number None stands searched.1 searched.2) (λ held. absurd (cc)) reach n g);
     }
 
 -- a state that follows its cursor keeps what grains know

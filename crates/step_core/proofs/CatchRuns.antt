@@ -1,6 +1,7 @@
 -- Subscriptions that are caught up one after another.
-use Rattle.step_core.proofs.Prelude.{caught_up, AreIdle, AreUnique, PlainRegistry, PlainCache, high, ◌≡◌, ◌∙◌, ap, sym, subst, refl, ℕ, zero, suc, ◌<◌, ◌≤◌, max, true, false, length, get_or, Option, Some, None, arith, option_map, IfSome, MatchOption, sub_lt, above, keys_where, past, SubName, Explicit, reached-leads, open_names, is_due, sub_at, IsReached, PlainPartition, AreRecords, PlainTable, name_at, no_entry, state_at}
-use Rattle.stream_model.specs.Draining.{serve}
+use Rattle.step_core.proofs.Prelude.{caught_up, AreIdle, AreUnique, PlainRegistry, PlainCache, high, ◌≡◌, ◌∙◌, ap, sym, subst, refl, ℕ, zero, suc, ◌<◌, ◌≤◌, max, true, false, length, get_or, Option, Some, None, arith, length-map, option_map, IfSome, MatchOption, sub_lt, above, keys_where, past, SubName, Explicit, reached-leads, open_names, is_due, sub_at, IsReached, PlainPartition, Subscription, AreRecords, PlainTable, name_at, no_entry, state_at}
+use Rattle.stream_model.specs.Draining as draining
+use Rattle.stream_model.specs.Draining.{serve, serve_each}
 use Rattle.pulling_agent.specs.declared.told.Sought.TheVariants as sought
 use Rattle.subscription_table.specs.Idle as table
 use Rattle.subscription_table.specs.Idle.{IsNextDue}
@@ -8,12 +9,13 @@ use Rattle.subscription_table.proofs.StateLemmas.{fits-caught_up}
 use Rattle.subscription_table.proofs.TableLemmas.{Fits, records-with}
 use Rattle.step_core.specs.declared.parts.Parts.{Parts}
 use Rattle.step_core.specs.Assembly.{Agrees}
-use Rattle.step_core.specs.DrainPhases.{Ends}
+use Rattle.step_core.specs.declared.draining.Stop.{Stop}
+use Rattle.step_core.specs.DrainPhases.{Ends, halted}
 use Rattle.step_core.specs.PlainOf.{plain_of}
 use Rattle.step_core.specs.Serving.{name_of, names_of, next_due, CatchUp, CatchesUpFrom, IsCaughtUp}
 use Rattle.step_core.proofs.AssembledTable.{agrees-led}
 use Rattle.step_core.proofs.CatchOps.{caught-assembled, caught-leads, caught-up}
-use Rattle.step_core.proofs.DueNames.{due-past, fewer-left, goes-on, GoesOn}
+use Rattle.step_core.proofs.DueNames.{due-past, fewer-left, goes-on, goes-on-halted, GoesOn}
 use Rattle.step_core.proofs.HandOps.{Searched, Stands, held-idle, high-few, with_subs}
 use Rattle.step_core.proofs.KeptNames.{served-names}
 use Rattle.step_core.proofs.LeafOps.{due-is}
@@ -21,13 +23,15 @@ use Rattle.step_core.proofs.SettledOps.{serves-caught-up}
 
 -- ---- of the parts
 
--- one that is caught up
-record IsOne (parts : Parts) (t : PlainTable) (number : ℕ) : Type 0 where
+-- those that are caught up one after another
+pub record IsRun (parts : Parts) (t : PlainTable) (first more last : ℕ) : Type 0 where
   pub agrees : Agrees (with_subs parts t)
   pub registry : t.registry ≡ parts.subs.registry
-  pub caught : IsCaughtUp (plain_of parts) (plain_of (with_subs parts t)) (name_at parts.subs number)
+  pub within : last < length parts.subs.registry.names
+  pub caught : CatchUp (plain_of parts) (plain_of (with_subs parts t)) (name_at parts.subs first) more (name_at parts.subs last)
 
-one-caught : (parts : Parts) (t : PlainTable) (number : ℕ) → Agrees parts → AreIdle parts.grains → table.CatchesUp parts.agent.cache parts.subs t number → IsOne parts t number
+-- the first of them
+one-caught : (parts : Parts) (t : PlainTable) (number : ℕ) → Agrees parts → AreIdle parts.grains → table.CatchesUp parts.agent.cache parts.subs t number → IsRun parts t number zero number
 one-caught parts t number agrees idle catches =
     let stands : Stands parts number = record { agrees = agrees; within = catches.within } in
     let between = catches.idle.between in
@@ -46,15 +50,9 @@ one-caught parts t number agrees idle catches =
           (records-with parts.subs agrees.records number catches.within (caught_up (high parts.agent.cache) false state) (fits-caught_up state fits (high parts.agent.cache) false (omega (arith, high-few parts agrees)))))
           agrees.distinct (caught-leads (plain_of parts) (plain_of (with_subs parts t)) (name_at parts.subs number) true caught);
       registry = registry;
-      caught = caught;
+      within = catches.within;
+      caught = (refl, caught);
     }
-
--- those that are caught up one after another
-pub record IsRun (parts : Parts) (t : PlainTable) (first more last : ℕ) : Type 0 where
-  pub agrees : Agrees (with_subs parts t)
-  pub registry : t.registry ≡ parts.subs.registry
-  pub within : last < length parts.subs.registry.names
-  pub caught : CatchUp (plain_of parts) (plain_of (with_subs parts t)) (name_at parts.subs first) more (name_at parts.subs last)
 
 next-is : (parts : Parts) (before number : ℕ) → IsNextDue (high parts.agent.cache) parts.subs before number → Some (name_at parts.subs number) ≡ next_due (plain_of parts) (Some (name_at parts.subs before))
 next-is parts before number next =
@@ -62,37 +60,20 @@ next-is parts before number next =
     (due-is parts (Some (name_at parts.subs before)) ∙ next.next) next.past
 
 pub run-caught : (parts : Parts) (t : PlainTable) (first more last : ℕ) → Agrees parts → AreIdle parts.grains → table.CatchUp parts.agent.cache parts.subs t first more last → IsRun parts t first more last
-run-caught parts t first zero last agrees idle (same, catches) =
-    let one = one-caught parts t first agrees idle catches in
-    record {
-      agrees = one.agrees;
-      registry = one.registry;
-      within = omega (arith, same, catches.within);
-      caught = (ap (name_at parts.subs) same, one.caught);
-    }
+run-caught parts t first zero last agrees idle (same, catches) = subst (IsRun parts t first zero) (sym same) (one-caught parts t first agrees idle catches)
 run-caught parts t first (suc more) last agrees idle (mid, (before, (run, (next, catches)))) =
     let rest = run-caught parts mid first more before agrees idle run in
     let here = with_subs parts mid in
     let one = one-caught here t last rest.agrees idle catches in
     let name : (number : ℕ) → name_at mid number ≡ name_at parts.subs number = λ number. ap (λ (r : PlainRegistry). (get_or r.names number no_entry).0) rest.registry in
+    let next : Some (name_at parts.subs last) ≡ next_due (plain_of here) (Some (name_at parts.subs before)) =
+    sym (ap Some (name last)) ∙ next-is here before last next ∙ ap (λ (s : SubName). next_due (plain_of here) (Some s)) (name before) in
+    let caught : IsCaughtUp (plain_of here) (plain_of (with_subs parts t)) (name_at parts.subs last) = subst (IsCaughtUp (plain_of here) (plain_of (with_subs parts t))) (name last) one.caught.1 in
     record {
       agrees = one.agrees;
       registry = one.registry ∙ rest.registry;
       within = omega (arith, catches.within, ap (λ (r : PlainRegistry). length r.names) rest.registry);
-      caught = (
-        plain_of here,
-        (
-          name_at parts.subs before,
-          (
-            rest.caught,
-            (
-              subst (λ (s : SubName). Some s ≡ next_due (plain_of here) (Some (name_at parts.subs before))) (name last)
-                  (subst (λ (s : SubName). Some (name_at mid last) ≡ next_due (plain_of here) (Some s)) (name before) (next-is here before last next)),
-              subst (IsCaughtUp (plain_of here) (plain_of (with_subs parts t))) (name last) one.caught,
-            ),
-          ),
-        ),
-      );
+      caught = (plain_of here, (name_at parts.subs before, (rest.caught, (next, caught))));
     }
 
 -- whether they are, where nothing has changed if they aren't
@@ -131,22 +112,20 @@ pub record IsPast (start here new : PlainPartition) (last : Option SubName) (fin
   pub goes : GoesOn start new (Some final)
   pub fewer : length (above sub_lt (Some final) (open_names start)) < length (above sub_lt last (open_names start))
 
-one-past : (start here new : PlainPartition) (last : Option SubName) (d : SubName) → IsReached here → GoesOn start here last → Some d ≡ next_due here last → IsCaughtUp here new d → IsPast start here new last d
-one-past start here new last d reached before next caught =
-    let served : Ends here new (Some None) (serve d here (sub_at here d)) = serves-caught-up here new d caught in
-    record {
-      reached = let led = caught-leads here new d true caught in reached-leads here led.0 new reached led.1;
-      names = served-names here new d served;
-      goes = goes-on start here new last d reached before next served;
-      fewer = fewer-left start here last d reached before next;
-    }
+one-past : (start here new : PlainPartition) (last : Option SubName) (d : SubName) → IsReached here → GoesOn start here last → Some d ≡ next_due here last → Ends here new (Some None) (serve d here (sub_at here d)) → IsPast start here new last d
+one-past start here new last d reached before next served = record {
+  reached = reached-leads here (serve d here (sub_at here d)).entries new reached served.2;
+  names = served-names here new d served;
+  goes = goes-on start here new last d reached before next served;
+  fewer = fewer-left start here last d reached before next;
+}
 
 pub run-past : (start here new : PlainPartition) (last : Option SubName) (first : SubName) (more : ℕ) (final : SubName) → IsReached here → GoesOn start here last → Some first ≡ next_due here last → CatchUp here new first more final → IsPast start here new last final
 run-past start here new last first zero final reached before next (same, caught) =
-    subst (IsPast start here new last) (sym same) (one-past start here new last first reached before next caught)
+    subst (IsPast start here new last) (sym same) (one-past start here new last first reached before next (serves-caught-up here new first caught))
 run-past start here new last first (suc more) final reached before next (mid, (d, (run, (after, caught)))) =
     let rest = run-past start here mid last first more d reached before next run in
-    let one = one-past start mid new (Some d) final rest.reached rest.goes after caught in
+    let one = one-past start mid new (Some d) final rest.reached rest.goes after (serves-caught-up mid new final caught) in
     record {
       reached = one.reached;
       names = one.names ∙ rest.names;
@@ -155,31 +134,37 @@ run-past start here new last first (suc more) final reached before next (mid, (d
     }
 
 -- and so on from the last of them, by its number
-pub record GoesOnFrom (start new : PlainPartition) (last : Option SubName) (number : ℕ) : Type 0 where
+pub record GoesOnFrom (start here new : PlainPartition) (last : Option SubName) (number : ℕ) : Type 0 where
   pub goes : GoesOn start new (Some (name_of new number))
   pub fewer : length (above sub_lt (Some (name_of new number)) (open_names start)) < length (above sub_lt last (open_names start))
+  pub long : length new.subs ≡ length here.subs
 
 module _ (start here new : PlainPartition) (last found : Option ℕ) (number : ℕ) (reached : IsReached here) (before : GoesOn start here (option_map (name_of here) last)) (is : found ≡ Some number)
     (due : option_map (name_of here) found ≡ next_due here (option_map (name_of here) last)) where
-  pub next-named : Some (name_of here number) ≡ next_due here (option_map (name_of here) last)
+  abbrev after : Option SubName
+  after = option_map (name_of here) last
+
+  next-named : Some (name_of here number) ≡ next_due here after
   next-named = sym (ap (option_map (name_of here)) is) ∙ due
 
-  pub served-from : (stood : PlainPartition) → stood ≡ here → Ends stood new (Some None) (serve (name_of stood number) stood (sub_at stood (name_of stood number))) → GoesOnFrom start new (option_map (name_of here) last) number
-  served-from stood same ends =
-      let d = name_of here number in
-      let served : Ends here new (Some None) (serve d here (sub_at here d)) = subst (λ (p : PlainPartition). Ends p new (Some None) (serve (name_of p number) p (sub_at p (name_of p number)))) same ends in
-      let name : name_of new number ≡ d = ap (λ names. get_or names number (Explicit 0)) (served-names here new d served) in
+  from-past : (end : ℕ) → IsPast start here new after (name_of here end) → GoesOnFrom start here new after end
+  from-past end past =
+      let name : name_of here end ≡ name_of new end = ap (λ names. get_or names end (Explicit 0)) (sym past.names) in
       record {
-        goes = subst (λ (s : SubName). GoesOn start new (Some s)) (sym name) (goes-on start here new (option_map (name_of here) last) d reached before next-named served);
-        fewer = subst (λ (s : SubName). length (above sub_lt (Some s) (open_names start)) < length (above sub_lt (option_map (name_of here) last) (open_names start))) (sym name)
-            (fewer-left start here (option_map (name_of here) last) d reached before next-named);
+        goes = subst (λ (s : SubName). GoesOn start new (Some s)) name past.goes;
+        fewer = subst (λ (s : SubName). length (above sub_lt (Some s) (open_names start)) < length (above sub_lt after (open_names start))) name past.fewer;
+        long = sym (length-map new.subs (λ (e : SubName × Subscription). e.0)) ∙ ap length past.names ∙ length-map here.subs (λ (e : SubName × Subscription). e.0);
       }
 
-  pub caught-from : (end : ℕ) → CatchesUpFrom (name_of here) here new number (Some end) → GoesOnFrom start new (option_map (name_of here) last) end
-  caught-from end run =
-      let past = run-past start here new (option_map (name_of here) last) (name_of here number) run.0 (name_of here end) reached before next-named run.1 in
-      let name : name_of new end ≡ name_of here end = ap (λ names. get_or names end (Explicit 0)) past.names in
-      record {
-        goes = subst (λ (s : SubName). GoesOn start new (Some s)) (sym name) past.goes;
-        fewer = subst (λ (s : SubName). length (above sub_lt (Some s) (open_names start)) < length (above sub_lt (option_map (name_of here) last) (open_names start))) (sym name) past.fewer;
-      }
+  -- served where nothing had changed before
+  served-as : (stood : PlainPartition) (end : Option (Option draining.Stop)) → stood ≡ here → Ends stood new end (serve (name_of stood number) stood (sub_at stood (name_of stood number))) → Ends here new end (serve (name_of here number) here (sub_at here (name_of here number)))
+  served-as stood end same ends = subst (λ (p : PlainPartition). Ends p new end (serve (name_of p number) p (sub_at p (name_of p number)))) same ends
+
+  pub served-from : (stood : PlainPartition) → stood ≡ here → Ends stood new (Some None) (serve (name_of stood number) stood (sub_at stood (name_of stood number))) → GoesOnFrom start here new after number
+  served-from stood same ends = from-past number (one-past start here new after (name_of here number) reached before next-named (served-as stood (Some None) same ends))
+
+  pub halted-from : (stood : PlainPartition) (why : Stop) → stood ≡ here → Ends stood new (halted why) (serve (name_of stood number) stood (sub_at stood (name_of stood number))) → Ends start new (halted why) (serve_each (open_names start) start)
+  halted-from stood why same ends = goes-on-halted start here new after (name_of here number) why reached before next-named (served-as stood (halted why) same ends)
+
+  pub caught-from : (end : ℕ) → CatchesUpFrom (name_of here) here new number (Some end) → GoesOnFrom start here new after end
+  caught-from end run = from-past end (run-past start here new after (name_of here number) run.0 (name_of here end) reached before next-named run.1)

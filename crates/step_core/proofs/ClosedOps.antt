@@ -19,8 +19,9 @@ use Rattle.step_core.proofs.AssembledTable.{IsAsLarge, assembled-subs}
 use Rattle.step_core.proofs.KnownMore.{known-forgotten, known-names, closed-grain}
 use Rattle.step_core.proofs.KnownOps.{known-state}
 use Rattle.step_core.proofs.NamesOps.{name-of-entry, name-of-place}
-use Rattle.step_core.proofs.Shared.{distinct-of-unique}
+use Rattle.step_core.proofs.Shared.{distinct-of-unique, ap-if}
 use Rattle.step_core.proofs.SubscriberOps.{forgotten-is, unsubscribe-parts, with_closed}
+use Rattle.step_core.proofs.NumberedOps.{grains-known}
 
 -- ---- the grain forgets the record
 
@@ -69,19 +70,11 @@ close-found t s number found =
 close-explicit : (t : PlainTable) (n number : ℕ) → AreRecords t → place_of same_sub (name.Explicit n) t.registry.names ≡ Some number
     → close t number ≡ (if (state_at t number).live then (with_closed_name t n number, close_told.Done) else (t, close_told.Closed))
 close-explicit t n number records found =
+    let within : number < length t.states = omega (arith, place_of-within same_sub (name.Explicit n) number t.registry.names found, records.long) in
+    let done : PlainRegistry × Closing = (record t.registry { names = changed_value same_sub (name.Explicit n) closed_registration t.registry.names }, close_told.Done) in
     close-found t (name.Explicit n) number found
-    ∙ ap (λ is_open. closed_by t number (picked is_open)) (sym (records.openness number within))
-    ∙ by (state_at t number).live
-  where
-    within : number < length t.states
-    within = omega (arith, place_of-within same_sub (name.Explicit n) number t.registry.names found, records.long)
-
-    picked : Bool → PlainRegistry × Closing
-    picked is_open = if is_open then (record t.registry { names = changed_value same_sub (name.Explicit n) closed_registration t.registry.names }, close_told.Done) else (t.registry, close_told.Closed)
-
-    by : (is_open : Bool) → closed_by t number (picked is_open) ≡ (if is_open then (with_closed_name t n number, close_told.Done) else (t, close_told.Closed))
-    by true = refl
-    by false = refl
+    ∙ ap (λ is_open. closed_by t number (if is_open then done else (t.registry, close_told.Closed))) (sym (records.openness number within))
+    ∙ ap-if (closed_by t number) (state_at t number).live done (t.registry, close_told.Closed)
 
 -- the table is as large as it was, the grains know what they knew, and a record that it closed is closed
 record IsClosed (t : PlainTable) (grains : List (GrainId × PlainActivation)) (number : ℕ) (stepped : PlainTable × Closing) : Type 0 where
@@ -183,11 +176,4 @@ forgotten-known parts g number assembled is_closed = by (place_of same_grain g p
 
 pub forgotten-assembled : (parts : Parts) (g : GrainId) (number : ℕ) → IsAssembled parts → (state_at parts.subs number).live ≡ false → IsAssembled (record parts { grains = forgotten_by g number parts.grains })
 forgotten-assembled parts g number assembled is_closed =
-    record {
-      most_subs = assembled.most_subs;
-      most_rules = assembled.most_rules;
-      most_events = assembled.most_events;
-      cached = assembled.cached;
-      numbered = forgotten-numbered (length parts.subs.registry.names) g number parts.grains assembled.numbered;
-      known = forgotten-known parts g number assembled is_closed;
-    }
+    grains-known parts (forgotten_by g number parts.grains) assembled (forgotten-numbered (length parts.subs.registry.names) g number parts.grains assembled.numbered) (forgotten-known parts g number assembled is_closed)

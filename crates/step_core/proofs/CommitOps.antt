@@ -24,15 +24,12 @@ use Rattle.step_core.proofs.NamesOps.{number-of-name, record-of-number}
 use Rattle.step_core.proofs.NumberedOps.{HasGrain, All-change_at, change_at-by, grain-below, grain-within}
 use Rattle.step_core.proofs.RecordOps.{record-set}
 use Rattle.step_core.proofs.Shared.{distinct-of-unique, history-of, name-same}
+use Rattle.std.proofs.lemmas.Option.{cond_some}
 
 -- the turn that was asked for runs
 running-is : (running : Option RunningTurn) (run : RunningTurn) (own activation turn : ℕ) → (if is_turn own activation turn running then running else None) ≡ Some run → running ≡ Some run
 running-is None run own activation turn is = absurd (cc)
-running-is (Some r) run own activation turn is = by ((activation == own) && (turn == r.turn)) is
-  where
-    by : (b : Bool) → (if b then Some r else None) ≡ Some run → Some r ≡ Some run
-    by true is = is
-    by false is = absurd (cc)
+running-is (Some r) run own activation turn is = ap Some (cond_some ((activation == own) && (turn == r.turn)) r run is).1
 
 -- ---- what runs is of numbers that are given, of positions of the log, and goes on where what is handled ends
 
@@ -219,38 +216,25 @@ handle-registry subs now told parts run note is =
 commit-known : {parts : Parts} {g : GrainId} {i activation turn : ℕ} {run : RunningTurn} (note : ℕ) → Runs parts g i activation turn run
     → AreKnown parts.subs.registry.names (handle parts.subs parts.queue run note).0.states (change_at without_turn i parts.grains)
 commit-known {parts} {g} {i} {activation} {turn} {run} note runs =
+    let names = parts.subs.registry.names in
+    let a = activation_at parts.grains i in
+    let known = runs.has.agrees.assembled.known in
+    let theirs : IsOf names parts.grains run.sub i = subst (λ (h : GrainId). same_grain h (grains.grain_at parts.grains i) ≡ true) (sym (running-grain runs)) (place_of-key same_grain g parts.grains no_grain i runs.has.found) in
+    let held : holds run.sub a ≡ true = or-right (list_any (λ (d : Delivery). run.sub == d.sub) a.mailbox) (holding.runs run.sub a.running) (ap (holding.runs run.sub) (is-running runs) ∙ eq-eqb run.sub run.sub refl) in
+    let handled : AreKnown names (handle parts.subs parts.queue run note).0.states parts.grains =
+    cond_both (state_at parts.subs run.sub).live _ _ (λ (out : PlainTable × Reply). AreKnown names out.0.states parts.grains)
+    (λ _. known-state names parts.subs.states parts.grains run.sub (committed run.positions note (state_at parts.subs run.sub)) known (omega (arith, running-below runs, runs.has.agrees.records.long))
+    (λ is_open. is_open) (λ at none unheld. absurd (false≢true (sym (unheld i (grain-within runs.has) theirs) ∙ held))))
+    (λ _. known)
+    in
     known-grain names (handle parts.subs parts.queue run note).0.states parts.grains i without_turn handled (grain-within runs.has) refl (λ n none. ended-holds n a none)
-  where
-    names : List (SubName × Registration)
-    names = parts.subs.registry.names
-
-    a : PlainActivation
-    a = activation_at parts.grains i
-
-    known : AreKnown names parts.subs.states parts.grains
-    known = runs.has.agrees.assembled.known
-
-    theirs : IsOf names parts.grains run.sub i
-    theirs = subst (λ (h : GrainId). same_grain h (grains.grain_at parts.grains i) ≡ true) (sym (running-grain runs)) (place_of-key same_grain g parts.grains no_grain i runs.has.found)
-
-    held : holds run.sub a ≡ true
-    held = or-right (list_any (λ (d : Delivery). run.sub == d.sub) a.mailbox) (holding.runs run.sub a.running) (ap (holding.runs run.sub) (is-running runs) ∙ eq-eqb run.sub run.sub refl)
-
-    handled : AreKnown names (handle parts.subs parts.queue run note).0.states parts.grains
-    handled =
-        cond_both (state_at parts.subs run.sub).live _ _ (λ (out : PlainTable × Reply). AreKnown names out.0.states parts.grains)
-        (λ _. known-state names parts.subs.states parts.grains run.sub (committed run.positions note (state_at parts.subs run.sub)) known (omega (arith, running-below runs, runs.has.agrees.records.long))
-        (λ is_open. is_open) (λ at none unheld. absurd (false≢true (sym (unheld i (grain-within runs.has) theirs) ∙ held))))
-        (λ _. known)
 
 pub commit-assembled : {parts : Parts} {g : GrainId} {i activation turn : ℕ} {run : RunningTurn} (note : ℕ) (subs : PlainTable) (grains : PlainGrains) (told : Reply) → Runs parts g i activation turn run
     → (subs, told) ≡ handle parts.subs parts.queue run note → grains ≡ change_at without_turn i parts.grains → IsAssembled (with_both parts subs grains)
 commit-assembled {parts} {g} {i} {activation} {turn} {run} note subs grains told runs is_handled is_grains =
+    let assembled = runs.has.agrees.assembled in
     both-known parts subs grains assembled (handle-registry parts.subs subs told parts run note is_handled)
     (subst (λ (grains : PlainGrains). AllByRecursion (λ entry. IsBelow (length parts.subs.registry.names) entry.1) grains) (sym is_grains)
     (All-change_at (IsBelow (length parts.subs.registry.names)) without_turn i parts.grains (ended-below (length parts.subs.registry.names)) assembled.numbered))
     (subst (AreKnown parts.subs.registry.names subs.states) (sym is_grains)
     (subst (λ (out : PlainTable × Reply). AreKnown parts.subs.registry.names out.0.states (change_at without_turn i parts.grains)) (sym is_handled) (commit-known note runs)))
-  where
-    assembled : IsAssembled parts
-    assembled = runs.has.agrees.assembled

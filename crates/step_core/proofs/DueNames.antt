@@ -1,5 +1,5 @@
 -- What a drain serves: the open subscriptions that are due, in the order of their names. The others are settled.
-use Rattle.step_core.proofs.Prelude.{◌≡◌, ◌∙◌, ap, sym, refl, subst, ℕ, ◌<◌, ◌≤◌, ◌&&◌, ◌||◌, nat_lt, Bool, true, false, List, [], ◌∷◌, ◌++◌, filter, length, Option, Some, None, arith, and_parts, both_ways, cond_both, eq-eqb, false_from_ne_true, le-leb, lt-ltb, ltb-false, or_parts, or_right, append-nil, length-append, length-map, AllByRecursion, list_any, option_map, is_some, IfNone, IfSome, All-weaken, sub_equality, or_else-parts, same_sub, sub_lt, above, is_above, keys_where, least, next_after, or_else, past, SubName, next-bounds, open_names, is_due, next_position, sub_at, IsReached, PlainPartition, Subscription}
+use Rattle.step_core.proofs.Prelude.{◌≡◌, ◌∙◌, ap, sym, refl, subst, ℕ, ◌<◌, ◌≤◌, ◌&&◌, ◌||◌, nat_lt, Bool, true, false, List, [], ◌∷◌, ◌++◌, filter, length, Option, Some, None, arith, and_parts, both_ways, cond_both, eq-eqb, false_from_ne_true, le-leb, lt-ltb, ltb-false, or_parts, or_right, append-nil, length-append, AllByRecursion, list_any, option_map, is_some, IfNone, IfSome, All-weaken, sub_equality, or_else-parts, same_sub, sub_lt, above, is_above, keys_where, least, next_after, or_else, past, SubName, next-bounds, open_names, is_due, next_position, sub_at, IsReached, PlainPartition, Subscription}
 use Rattle.std.specs.Bool.{then_some}
 use Rattle.stream_ident.proofs.NameOrders.{sub_order}
 use Rattle.stream_laws.proofs.DrainServe.{IsOpenAt, open-names}
@@ -16,7 +16,7 @@ use Rattle.step_core.specs.DrainPhases.{Ends, halted}
 use Rattle.step_core.specs.Serving.{is_settled_in, next_due}
 use Rattle.step_core.proofs.DrainLoops.{Suffices}
 use Rattle.step_core.proofs.DrainSteps.{ends-halted, ends-then}
-use Rattle.step_core.proofs.KeptNames.{open_keys, served-keeps, served-names}
+use Rattle.step_core.proofs.KeptNames.{open_keys, served-keeps}
 use Rattle.step_core.proofs.RisingNames.{AreRising, IsSplit, above-filter, apart-keys, least-is, least-past, none-past, not-passed, of-any, rising-in_order, split-at}
 use Rattle.step_core.proofs.SettledOps.{serves-settled}
 use Rattle.step_core.proofs.Shared.{history-of}
@@ -247,8 +247,3 @@ fewer-past p last d reached next =
 pub fewer-left : (start here : PlainPartition) (last : Option SubName) (d : SubName) → IsReached here → GoesOn start here last → Some d ≡ next_due here last → length (above sub_lt (Some d) (open_names start)) < length (above sub_lt last (open_names start))
 fewer-left start here last d reached before next =
     subst (λ (names : List SubName). length (above sub_lt (Some d) names) < length (above sub_lt last names)) before.names (fewer-past here last d reached next)
-
--- as many records are there as before
-pub length-stays : (here mid : PlainPartition) (d : SubName) → Ends here mid (Some None) (serve d here (sub_at here d)) → length mid.subs ≡ length here.subs
-length-stays here mid d served =
-    sym (length-map mid.subs (λ (e : SubName × Subscription). e.0)) ∙ ap length (served-names here mid d served) ∙ length-map here.subs (λ (e : SubName × Subscription). e.0)

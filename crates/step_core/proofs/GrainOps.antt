@@ -68,12 +68,10 @@ some-filtered test (x ∷ xs) = by (test x) (some-filtered test xs)
 
 waiting-is : (names : List (SubName × Registration)) (sub : ℕ) (deliveries : List Delivery) → AreDistinct names → sub < length names → AllByRecursion (λ (d : Delivery). d.sub < length names) deliveries → nat_lt 0 (length (waiting_in (name_at names sub) (map (delivery_of names) deliveries))) ≡ list_any (λ (d : Delivery). sub == d.sub) deliveries
 waiting-is names sub deliveries distinct within all =
+    let own : List Delivery = filter (λ (d : Delivery). sub == d.sub) deliveries in
     ap (λ ds. nat_lt 0 (length (map (λ d. d.position) ds))) (own-deliveries names sub deliveries distinct within all)
     ∙ ap (nat_lt 0) (length-map (map (delivery_of names) own) (λ d. d.position) ∙ length-map own (delivery_of names))
     ∙ some-filtered (λ (d : Delivery). sub == d.sub) deliveries
-  where
-    own : List Delivery
-    own = filter (λ (d : Delivery). sub == d.sub) deliveries
 
 abbrev pub AreSome : Option RunningTurn → Type 0
 AreSome None = Unit {0}

@@ -1,5 +1,5 @@
 -- What is known where an agent hands an event over, and what the calls of the parts make of it.
-use Rattle.step_core.proofs.Prelude.{next_in, PlainActivation, holds, runs, new_activation, next_activation, offered, offer_takes_memory, with_number, woken, advanced, caught_up, RunningTurn, Delivery, SubState, OffersAt, activation_at, no_grain, PlainGrains, number_of, AreIdle, Registration, done-current, if_current, next_at, next_event, StaleAgent, PlainCache, high, ◌≡◌, ◌∙◌, ap, ap₂, sym, subst, refl, ℕ, suc, ◌+◌, ◌^◌, ◌<◌, ◌≤◌, max, Bool, true, false, ◌&&◌, ◌||◌, not, List, [], ◌∷◌, length, set, Option, Some, None, ◌==◌, nat_le, nat_lt, arith, and_from, and_parts, eqb-true, le-ltb, not-true, set-get_or, length-map, list_any, AllByRecursion, option_map, if◌then◌else◌, Result, OnErr, AllocError, All-append, place_of-key, same_grain-refl, All-at, same_grain, same_sub, change_at, past, place_of, Performs, GrainId, StreamId, SubName, MAILBOX_PLACES, on-error, place_of-within, is_untouched, is_outstanding, is_spent, next_position, running_in, sub_at, token_at, waiting_in, Reply, takes_memory, Grain, PlainPartition, Subscription, PlainTable, no_entry, no_state, registration_at, state_at, stepped, with_state}
+use Rattle.step_core.proofs.Prelude.{next_in, PlainActivation, holds, runs, new_activation, next_activation, offered, offer_takes_memory, with_number, woken, advanced, caught_up, RunningTurn, Delivery, SubState, OffersAt, activation_at, no_grain, PlainGrains, number_of, AreIdle, done-current, if_current, next_at, next_event, StaleAgent, PlainCache, high, ◌≡◌, ◌∙◌, ap, ap₂, sym, subst, refl, ℕ, suc, ◌+◌, ◌^◌, ◌<◌, ◌≤◌, max, Bool, true, false, ◌&&◌, ◌||◌, not, List, [], ◌∷◌, length, set, Option, Some, None, ◌==◌, nat_le, nat_lt, arith, and_from, and_parts, eqb-true, le-ltb, not-true, set-get_or, length-map, list_any, AllByRecursion, option_map, if◌then◌else◌, Result, OnErr, AllocError, All-append, place_of-key, same_grain-refl, All-at, same_grain, same_sub, change_at, past, place_of, Performs, GrainId, StreamId, SubName, MAILBOX_PLACES, on-error, place_of-within, is_untouched, is_outstanding, is_spent, next_position, running_in, sub_at, token_at, waiting_in, Reply, takes_memory, Grain, PlainPartition, Subscription, PlainTable, no_entry, no_state, registration_at, state_at, stepped, with_state, cond_both}
 use Rattle.std.proofs.Common.{eq-eqb}
 use Rattle.std.specs.Prelude.{Ok}
 use Rattle.std.proofs.Math.Bool.{or-false}
@@ -86,21 +86,13 @@ idle-empty parts g j agrees found idle =
 pub held-there : (parts : Parts) (number j : ℕ) → Stands parts number → place_of same_grain (record_of parts number).grain parts.grains ≡ Some j
     → is_held (plain_of parts) (table.name_at parts.subs number) (record_of parts number) ≡ holds number (activation_at parts.grains j)
 held-there parts number j stands found =
+    let names = parts.subs.registry.names in
+    let r = record_of parts number in
+    let a = activation_at parts.grains j in
+    let s = name_at names number in
     ap (λ s. is_held (plain_of parts) s r) (sym (name-same parts.subs number))
     ∙ ap (λ (st : Grain). nat_lt 0 (length (waiting_in s st.mailbox)) || nat_lt 0 (length (running_in s st.running))) (grain-found parts r.grain j no_grain found)
     ∙ outstanding-is parts number a (distinct parts number stands) stands.within (known-at parts j stands.agrees.assembled (place_of-within same_grain r.grain j parts.grains found)) (some-at parts r.grain j stands.agrees found)
-  where
-    names : List (SubName × Registration)
-    names = parts.subs.registry.names
-
-    r : Subscription
-    r = record_of parts number
-
-    a : PlainActivation
-    a = activation_at parts.grains j
-
-    s : SubName
-    s = name_at names number
 
 -- a grain that was never active holds nothing
 pub held-nowhere : (parts : Parts) (number : ℕ) (s : SubName) → place_of same_grain (record_of parts number).grain parts.grains ≡ None → is_held (plain_of parts) s (record_of parts number) ≡ false
@@ -165,20 +157,13 @@ OfferIs j old new d offer.MailboxFull = (new ≡ old) × (nat_le MAILBOX_PLACES 
 OfferIs j old new d offer.Delivered = (new ≡ change_at (λ a. woken a d) j old) × (nat_le MAILBOX_PLACES (length (activation_at old j).mailbox) ≡ false)
 
 pub offer-is : (j : ℕ) (old new : PlainGrains) (d : Delivery) (told : Offered) → OffersAt j old new (Ok told) d → OfferIs j old new d told
-offer-is j old new d told offers = subst (OfferIs j old new d) (sym offers.1) (by (nat_le MAILBOX_PLACES (length a.mailbox)) refl)
-  where
-    a : PlainActivation
-    a = activation_at old j
-
-    chosen : Bool → PlainActivation × Offered
-    chosen full = if full then (a, offer.MailboxFull) else (woken a d, offer.Delivered)
-
-    becomes : (full : Bool) → nat_le MAILBOX_PLACES (length a.mailbox) ≡ full → new ≡ change_at (λ _. (chosen full).0) j old
-    becomes full is = offers.0 ∙ change_at-by (λ a. (offered a d).0) j old no_grain ∙ ap (λ b. change_at (λ _. (chosen b).0) j old) is
-
-    by : (full : Bool) → nat_le MAILBOX_PLACES (length a.mailbox) ≡ full → OfferIs j old new d (chosen full).1
-    by true full = (becomes true full ∙ change_at-kept j old no_grain, full)
-    by false room = (becomes false room ∙ sym (change_at-by (λ a. woken a d) j old no_grain), room)
+offer-is j old new d told offers =
+    let a = activation_at old j in
+    let becomes : new ≡ change_at (λ _. (offered a d).0) j old = offers.0 ∙ change_at-by (λ a. (offered a d).0) j old no_grain in
+    let Fits : PlainActivation × Offered → Type 0 = λ made. new ≡ change_at (λ _. made.0) j old → OfferIs j old new d made.1 in
+    subst (OfferIs j old new d) (sym offers.1)
+    (cond_both (nat_le MAILBOX_PLACES (length a.mailbox)) (a, offer.MailboxFull) (woken a d, offer.Delivered) Fits
+    (λ full now. (now ∙ change_at-kept j old no_grain, full)) (λ room now. (now ∙ sym (change_at-by (λ a. woken a d) j old no_grain), room)) becomes)
 
 -- an offer takes memory only at a delivery that is taken, the first of its subscription
 pub offer-first : (j : ℕ) (old : PlainGrains) (d : Delivery) → offer_takes_memory (activation_at old j) d ≡ true → (nat_le MAILBOX_PLACES (length (activation_at old j).mailbox) ≡ false) × (is_in (activation_at old j).subs d.sub ≡ false)

@@ -12,12 +12,10 @@ use Rattle.grain_table.specs.Grains as table
 pub unknown-to_own : (names : List (SubName × Registration)) (grains : List (GrainId × PlainActivation)) (n j : ℕ) → table.AreDistinct grains → place_of same_grain (get_or names n no_entry).1.grain grains ≡ Some j → is_in (activation_at grains j).subs n ≡ false
     → IsUnknown names grains n
 unknown-to_own names grains n j distinct found none k within of_k =
+    let g = (get_or names n no_entry).1.grain in
     let same : grain_at grains k ≡ grain_at grains j = sym (same_grain-equal g (grain_at grains k) of_k) ∙ same_grain-equal g (grain_at grains j) (place_of-key same_grain g grains no_grain j found) in
     let at_j : k ≡ j = distinct k j no_grain within (place_of-within same_grain g j grains found) (subst (λ (h : GrainId). same_grain (grain_at grains k) h ≡ true) same (same_grain-refl (grain_at grains k))) in
     subst (λ m. is_in (activation_at grains m).subs n ≡ false) (sym at_j) none
-  where
-    g : GrainId
-    g = (get_or names n no_entry).1.grain
 
 -- its own grain was never active
 pub unknown-nowhere : (names : List (SubName × Registration)) (grains : List (GrainId × PlainActivation)) (n : ℕ) → place_of same_grain (get_or names n no_entry).1.grain grains ≡ None → IsUnknown names grains n
@@ -221,10 +219,6 @@ known-grain names states grains j f known inside knows holds_less =
 pub or-right : (a b : Bool) → b ≡ true → (a || b) ≡ true
 or-right true b is = refl
 or-right false b is = is
-
-pub or-map : (a b c : Bool) → (b ≡ true → c ≡ true) → (a || b) ≡ true → (a || c) ≡ true
-or-map true b c step is = refl
-or-map false b c step is = step is
 
 with-number-in : (n : ℕ) (ms : List ℕ) → is_in (with_number n ms) n ≡ true
 with-number-in n [] = rw (eq-eqb n n refl) refl

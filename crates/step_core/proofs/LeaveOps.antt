@@ -23,6 +23,8 @@ pub deactivate-told : (parts : Parts) (g : GrainId) (i : ℕ) (subs : PlainTable
     → AreRewound (activation_at parts.grains i).subs parts.subs subs → grains ≡ change_at deactivated i parts.grains → count ≡ lost (activation_at parts.grains i)
     → (plain_of (with_both parts subs grains), reply.Deactivated count) ≡ plain.deactivate (plain_of parts) g
 deactivate-told parts g i subs grains count lengths assembled distinct found active rewound is_grains is_count =
+    let after : PlainTable = record parts.subs { states = subs.states } in
+    let done = out_of parts after (change_at (λ _. deactivated (activation_at parts.grains i)) i parts.grains) (lost (activation_at parts.grains i)) in
     sym (
     deactivate-parts parts g i no_grain subs.states lengths (omega (arith, rewound.long)) found (rewound-is parts g i subs (sym lengths) assembled.known distinct found rewound)
     ∙ ap (λ b. if not b then (plain_of parts, reply.NotActive) else done) active
@@ -30,12 +32,6 @@ deactivate-told parts g i subs grains count lengths assembled distinct found act
     ∙ ap (out_of parts after grains) (sym is_count)
     ∙ ap (λ registry. out_of parts (record subs { registry = registry }) grains count) (sym rewound.names)
     )
-  where
-    after : PlainTable
-    after = record parts.subs { states = subs.states }
-
-    done : PlainPartition × Reply
-    done = out_of parts after (change_at (λ _. deactivated (activation_at parts.grains i)) i parts.grains) (lost (activation_at parts.grains i))
 
 -- ---- the parts stay assembled
 

@@ -1,5 +1,5 @@
 -- Blocks are dropped and agents replaced, done by the parts.
-use Rattle.step_core.proofs.Prelude.{SubState, Registration, PlainCache, high, ◌≡◌, ◌∙◌, ap, sym, refl, ℕ, suc, ◌+◌, ◌*◌, ◌<◌, ◌≤◌, min, Bool, true, false, List, length, get_or, ◌==◌, nat_le, arith, length-drop, if◌then◌else◌, ◌/◌, least_with, SubName, BLOCK_EVENTS, open_resumes, slowest, token_at, Reply, PlainPartition}
+use Rattle.step_core.proofs.Prelude.{SubState, Registration, PlainCache, high, ◌≡◌, ◌∙◌, ap, sym, ℕ, suc, ◌+◌, ◌*◌, ◌<◌, ◌≤◌, min, true, List, length, get_or, ◌==◌, nat_le, arith, length-drop, if◌then◌else◌, ◌/◌, least_with, SubName, BLOCK_EVENTS, open_resumes, slowest, token_at, Reply, PlainPartition}
 use Rattle.std.specs.Prelude.{◌-◌}
 use Rattle.stream_model.specs.declared.reply.Reply.TheVariants as reply
 use Rattle.stream_model.specs.Pulling as plain
@@ -22,33 +22,19 @@ purged_by parts (a, low) = (plain_of (record parts { agent = a }), reply.Purged 
 
 pub purge-parts : (parts : Parts) (generation keep : ℕ) → (generation == parts.agent.generation) ≡ true → plain.purge (plain_of parts) generation keep ≡ purged_by parts (agent.purge_free parts.agent keep (slowest (plain_of parts)))
 unfolding plain.purge plain.purge_to
-purge-parts parts generation keep current = rw current drops
-  where
-    c : PlainCache
-    c = parts.agent.cache
-
-    least : ℕ
-    least = slowest (plain_of parts)
-
-    blocks : ℕ
-    blocks = agent.purges parts.agent keep least
-
-    same : plain.purges (plain_of parts) keep ≡ blocks
-    same = ap (λ n. min ((n + (BLOCK_EVENTS - 1)) / BLOCK_EVENTS - keep) (agent.free_blocks parts.agent least)) {x = high c - c.low} {y = length c.events} (omega arith)
-
-    within : BLOCK_EVENTS * blocks ≤ length c.events
-    within = let free = free-le parts.agent least in omega (arith, free)
-
-    left : PlainPartition × Reply
-    left = (record (plain_of parts) { low = c.low + BLOCK_EVENTS * plain.purges (plain_of parts) keep }, reply.Purged (token_at (plain_of parts) (c.low + BLOCK_EVENTS * plain.purges (plain_of parts) keep)))
-
-    right : PlainPartition × Reply
-    right = (plain_of (record parts { agent = record parts.agent { cache = agent.without_blocks blocks c } }), reply.Purged (token_at (plain_of parts) (c.low + BLOCK_EVENTS * blocks)))
-
-    drops : left ≡ right
-    drops =
-        ap {B = PlainPartition × Reply} (λ n. (record (plain_of parts) { low = c.low + BLOCK_EVENTS * n }, reply.Purged (token_at (plain_of parts) (c.low + BLOCK_EVENTS * n)))) same
-        ∙ ap {B = PlainPartition × Reply} (λ n. (record (plain_of parts) { low = c.low + BLOCK_EVENTS * blocks; high = n }, reply.Purged (token_at (plain_of parts) (c.low + BLOCK_EVENTS * blocks)))) (sym (high-without blocks c within))
+purge-parts parts generation keep current =
+    let c = parts.agent.cache in
+    let least = slowest (plain_of parts) in
+    let blocks = agent.purges parts.agent keep least in
+    let same : plain.purges (plain_of parts) keep ≡ blocks = ap (λ n. min ((n + (BLOCK_EVENTS - 1)) / BLOCK_EVENTS - keep) (agent.free_blocks parts.agent least)) {x = high c - c.low} {y = length c.events} (omega arith) in
+    let within : BLOCK_EVENTS * blocks ≤ length c.events = let free = free-le parts.agent least in omega (arith, free) in
+    let left : PlainPartition × Reply = (record (plain_of parts) { low = c.low + BLOCK_EVENTS * plain.purges (plain_of parts) keep }, reply.Purged (token_at (plain_of parts) (c.low + BLOCK_EVENTS * plain.purges (plain_of parts) keep))) in
+    let right : PlainPartition × Reply = (plain_of (record parts { agent = record parts.agent { cache = agent.without_blocks blocks c } }), reply.Purged (token_at (plain_of parts) (c.low + BLOCK_EVENTS * blocks))) in
+    let drops : left ≡ right =
+    ap {B = PlainPartition × Reply} (λ n. (record (plain_of parts) { low = c.low + BLOCK_EVENTS * n }, reply.Purged (token_at (plain_of parts) (c.low + BLOCK_EVENTS * n)))) same
+    ∙ ap {B = PlainPartition × Reply} (λ n. (record (plain_of parts) { low = c.low + BLOCK_EVENTS * blocks; high = n }, reply.Purged (token_at (plain_of parts) (c.low + BLOCK_EVENTS * blocks)))) (sym (high-without blocks c within))
+    in
+    rw current drops
 
 -- these states are the old ones, with the cursors of the open records back at their resumes
 abbrev pub AreAllRewound : Parts → List SubState → Type 0
@@ -63,21 +49,10 @@ pub move-parts : (parts : Parts) (silo at : ℕ) (new : List SubState) → lengt
     → plain.move (plain_of parts) silo
     ≡ (if nat_le parts.limits.rises parts.rises then (plain_of parts, reply.Spent) else (plain_of (moved parts silo at new), reply.Moved (suc parts.agent.generation) (token_at (plain_of parts) at)))
 unfolding plain.move plain.move_to
-move-parts parts silo at new lengths as_long is_at rewinds = by (nat_le parts.limits.rises parts.rises)
-  where
-    left : PlainPartition × Reply
-    left = plain.move_to (plain_of parts) silo (least_with (high parts.agent.cache) (open_resumes (plain_of parts)))
-
-    right : PlainPartition × Reply
-    right = (plain_of (moved parts silo at new), reply.Moved (suc parts.agent.generation) (token_at (plain_of parts) at))
-
-    moves : left ≡ right
-    moves =
-        ap (plain.move_to (plain_of parts) silo) (sym is_at)
-        ∙ ap {B = PlainPartition × Reply} (λ subs. (record (plain_of parts) { generation = suc parts.agent.generation; silo = silo; rises = suc parts.rises; low = at; high = at; subs = subs }, reply.Moved (suc parts.agent.generation) (token_at (plain_of parts) at)))
-        (records-changed (λ r. plain.rewound_where r.is_open r) parts.subs.registry.names parts.subs.states new lengths as_long rewinds)
-        ∙ ap {B = PlainPartition × Reply} (λ n. (record (plain_of (moved parts silo at new)) { high = n }, reply.Moved (suc parts.agent.generation) (token_at (plain_of parts) at))) {x = at} {y = at + 0} (omega arith)
-
-    by : (spent : Bool) → (if spent then (plain_of parts, reply.Spent) else left) ≡ (if spent then (plain_of parts, reply.Spent) else right)
-    by true = refl
-    by false = moves
+move-parts parts silo at new lengths as_long is_at rewinds =
+    let told : Reply = reply.Moved (suc parts.agent.generation) (token_at (plain_of parts) at) in
+    ap {B = PlainPartition × Reply} (λ (left : PlainPartition × Reply). if nat_le parts.limits.rises parts.rises then (plain_of parts, reply.Spent) else left)
+    (ap (plain.move_to (plain_of parts) silo) (sym is_at)
+    ∙ ap {B = PlainPartition × Reply} (λ subs. (record (plain_of parts) { generation = suc parts.agent.generation; silo = silo; rises = suc parts.rises; low = at; high = at; subs = subs }, told))
+    (records-changed (λ r. plain.rewound_where r.is_open r) parts.subs.registry.names parts.subs.states new lengths as_long rewinds)
+    ∙ ap {B = PlainPartition × Reply} (λ n. (record (plain_of (moved parts silo at new)) { high = n }, told)) {x = at} {y = at + 0} (omega arith))

@@ -1,5 +1,5 @@
 -- Blocks that leave the cache and an agent that takes over leave parts that agree with each other.
-use Rattle.step_core.proofs.Prelude.{IsDone, IsRefused, StaleAgent, PlainCache, high, bare, ◌≡◌, ◌∙◌, ap, sym, subst, ℕ, suc, ◌+◌, ◌-◌, ◌*◌, ◌≤◌, min, Bool, false, length, take, drop, get_or, map, arith, not, drop-map, get_or-map, length-map, if◌then◌else◌, least_with, BLOCK_EVENTS, Token, purge-stale, between, is_spent, open_resumes, slowest, token_at, Reply, PlainPartition, AreRecords, PlainTable, rewound_all, rewound_open}
+use Rattle.step_core.proofs.Prelude.{IsDone, IsRefused, StaleAgent, high, bare, ◌≡◌, ◌∙◌, ap, sym, subst, ℕ, suc, ◌+◌, ◌-◌, ◌*◌, ◌≤◌, min, Bool, false, length, take, drop, get_or, map, arith, not, drop-map, get_or-map, length-map, if◌then◌else◌, least_with, BLOCK_EVENTS, Token, purge-stale, between, is_spent, open_resumes, slowest, token_at, Reply, PlainPartition, AreRecords, PlainTable, rewound_all, rewound_open}
 use Rattle.stream_model.specs.declared.reply.Reply.TheVariants as reply
 use Rattle.stream_model.specs.Pulling as plain
 use Rattle.pulling_agent.specs.Agent as agent
@@ -20,14 +20,12 @@ purges-le a keep least = let free = free-le a least in omega (arith, free)
 -- the cache keeps the events of the other blocks
 pub has-without : (parts : Parts) (blocks : ℕ) → BLOCK_EVENTS * blocks ≤ length parts.agent.cache.events → HasEvents parts → HasEvents (record parts { agent = record parts.agent { cache = agent.without_blocks blocks parts.agent.cache } })
 has-without parts blocks within has =
+    let c = parts.agent.cache in
     ap (drop (BLOCK_EVENTS * blocks)) has
     ∙ drop-map bare (BLOCK_EVENTS * blocks) (between parts.queue.events c.low (high c))
     ∙ ap (map bare)
     (between-drop parts.queue.events c.low (high c) (BLOCK_EVENTS * blocks) (omega (arith, within))
     ∙ ap (between parts.queue.events (c.low + BLOCK_EVENTS * blocks)) (sym (high-without blocks c within)))
-  where
-    c : PlainCache
-    c = parts.agent.cache
 
 module _ (parts : Parts) (generation keep : ℕ) where
   pub purged-assembled : (least : ℕ) (new : agent.PlainAgent) (low : ℕ) → IsAssembled parts → IsDone parts.agent generation (agent.purge_free parts.agent keep least) new low → IsAssembled (record parts { agent = new })

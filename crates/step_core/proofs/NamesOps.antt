@@ -17,6 +17,7 @@ name-of-place s names number d found = same_sub-equal s (get_or names number d).
 
 pub number-of-name : (names : List (SubName × Registration)) (j : ℕ) → AreDistinct names → j < length names → place_of same_sub (name_at names j) names ≡ Some j
 number-of-name names j distinct within =
+    let s = name_at names j in
     first_at-there (λ (entry : SubName × Registration). same_sub s entry.0) 0 names no_entry j within
     (ap (same_sub s) (sym (name-of-entry names j no_entry within)) ∙ same_sub-refl s)
     (λ i before.
@@ -24,9 +25,6 @@ number-of-name names j distinct within =
     ∙ false_from_ne_true (same_sub s (name_at names i)) (λ same.
     let equal = distinct j i within (omega (arith, before, within)) same in absurd (omega (arith, before, equal))))
     ∙ ap {B = Option ℕ} Some (omega arith)
-  where
-    s : SubName
-    s = name_at names j
 
 -- the record of the name under a number
 pub record-of-number : (parts : Parts) (j : ℕ) (d : SubName × Registration) (e : SubState) → AreDistinct parts.subs.registry.names → length parts.subs.registry.names ≡ length parts.subs.states → j < length parts.subs.registry.names → sub_at (plain_of parts) (name_at parts.subs.registry.names j) ≡ Some (record_at parts j d e)

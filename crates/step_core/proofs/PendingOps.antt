@@ -1,48 +1,25 @@
 -- What is left to do, by the numbers of grains and of records.
-use Rattle.step_core.proofs.Prelude.{next_in, PlainActivation, SubState, activation_at, PlainGrains, Registration, PlainCache, ◌≡◌, ◌∙◌, ap, sym, refl, ℕ, zero, suc, ◌+◌, ◌<◌, ◌≤◌, Bool, true, false, ◌&&◌, List, [], ◌∷◌, length, map, take, arith, length-append, length-map, take_all, flat_map, is_some, GrainId, SubName, all_waiting, next_position, IsReached, Grain, no_entry, no_state, registration_at, state_at}
-use Rattle.step_core.specs.Assembly.{HasEvents}
-use Rattle.step_core.specs.Deliverables.{is_deliverable}
-use Rattle.step_core.specs.Numbers.{AreDistinct}
+use Rattle.step_core.proofs.Prelude.{PlainActivation, PlainGrains, Registration, activation_at, ◌≡◌, ◌∙◌, ap, sym, refl, ℕ, zero, suc, ◌+◌, ◌<◌, ◌≤◌, Bool, true, false, ◌&&◌, List, [], ◌∷◌, length, map, take, Some, None, arith, length-append, length-map, take_all, flat_map, if◌then◌else◌, is_some, GrainId, SubName, all_waiting, next_position, Grain, PlainPartition, Subscription}
+use Rattle.step_core.specs.Deliverables.{is_deliverable, next_of}
 use Rattle.step_core.specs.declared.parts.Parts.{Parts}
 use Rattle.step_core.specs.PlainOf.{plain_of}
-use Rattle.step_core.specs.View.{delivery_of, grains_of, name_at}
-use Rattle.step_core.proofs.DeliverOps.{next-is}
-use Rattle.step_core.proofs.NamesOps.{record-of-number}
-use Rattle.step_core.proofs.RecordOps.{record_at}
-use Rattle.step_core.proofs.Shared.{history-of}
+use Rattle.step_core.specs.View.{delivery_of, grains_of}
 
 -- ---- what can be delivered
 
--- nothing that the cache has dropped is behind the cursor of an open subscription
-pub open-cursor : (parts : Parts) (i : ℕ) → IsReached (plain_of parts) → AreDistinct parts.subs.registry.names → length parts.subs.registry.names ≡ length parts.subs.states → i < length parts.subs.registry.names → (state_at parts.subs i).live ≡ true
-    → parts.agent.cache.low ≤ (state_at parts.subs i).cursor
-open-cursor parts i reached distinct lengths within is_open =
-    let history = history-of (plain_of parts) reached in
-    let fits = history.fits.subs (name_at parts.subs.registry.names i) (record_at parts i no_entry no_state) (record-of-number parts i no_entry no_state distinct lengths within) in
-    let served = fits.served is_open in
-    omega (arith, served.low_resume, served.resume_cursor)
-
--- whether the record with a number has a next event is told by the cache
-abbrev seeks : PlainCache → Registration → SubState → Bool
-seeks cache registration state = state.live && is_some (next_in cache state.cursor registration.stream registration.start)
-
-pub next-told : (parts : Parts) (i : ℕ) (told : Bool) (cache : PlainCache) (registration : Registration) (state : SubState) → HasEvents parts
-    → ((state_at parts.subs i).live ≡ true → parts.agent.cache.low ≤ (state_at parts.subs i).cursor)
-    → cache ≡ parts.agent.cache → registration ≡ registration_at parts.subs i → state ≡ state_at parts.subs i
-    → told ≡ (state.live && is_some (next_in cache state.cursor registration.stream registration.start))
-    → told ≡ is_deliverable (plain_of parts) (record_at parts i no_entry no_state)
-next-told parts i told cache registration state has cursor is_cache is_registration is_state is_told =
-    is_told
-    ∙ ap (λ cache. seeks cache registration state) is_cache
-    ∙ ap (λ registration. seeks parts.agent.cache registration state) is_registration
-    ∙ ap (seeks parts.agent.cache (registration_at parts.subs i)) is_state
-    ∙ by (state_at parts.subs i).live cursor
+pub next-open : (p : PlainPartition) (r : Subscription) (position : ℕ) → next_of p r ≡ Some position → (r.is_open ≡ true) × (next_position p r ≡ Some position)
+next-open p r position = by r.is_open
   where
-    by : (b : Bool) → (b ≡ true → parts.agent.cache.low ≤ (state_at parts.subs i).cursor)
-        → (b && is_some (next_in parts.agent.cache (state_at parts.subs i).cursor (registration_at parts.subs i).stream (registration_at parts.subs i).start))
-        ≡ (b && is_some (next_position (plain_of parts) (record_at parts i no_entry no_state)))
-    by false cursor = refl
-    by true cursor = ap is_some (sym (next-is parts (record_at parts i no_entry no_state) has (cursor refl)))
+    by : (b : Bool) → (if b then next_position p r else None) ≡ Some position → (b ≡ true) × (next_position p r ≡ Some position)
+    by true is = (refl, is)
+    by false is = absurd (cc)
+
+pub deliverable-is : (p : PlainPartition) (r : Subscription) → is_deliverable p r ≡ is_some (next_of p r)
+deliverable-is p r = by r.is_open
+  where
+    by : (b : Bool) → (b && is_some (next_position p r)) ≡ is_some (if b then next_position p r else None)
+    by true = refl
+    by false = refl
 
 -- ---- how much waits
 

@@ -14,8 +14,9 @@ use Rattle.step_core.specs.declared.parts.Parts.{Parts}
 use Rattle.step_core.specs.PlainOf.{plain_of}
 use Rattle.step_core.specs.Taking.{taken}
 use Rattle.step_core.specs.View.{sub_of, subs_of}
-use Rattle.step_core.proofs.CheckOps.{IsAnswered, answered-as}
+use Rattle.step_core.proofs.CheckOps.{answered-as}
 use Rattle.step_core.proofs.LeafOps.{slowest-is}
+use Rattle.step_core.proofs.Shared.{ap-if}
 
 -- ---- the slowest subscription
 
@@ -83,48 +84,33 @@ drops-are parts want = ap (λ room. min ((want - room + (BLOCK_EVENTS - 1)) / BL
 
 count-planned : (parts : Parts) (drops count : ℕ) → plain.pull_count (plain_of parts) drops count ≡ planned (plain_of parts) (agent.plan_count drops count)
 unfolding plain.pull_count
-count-planned parts drops count = by (count == 0)
-  where
-    by : (none : Bool)
-        → (if none then (plain_of parts, reply.Pressed (unwrap_or (slowest_name (plain_of parts)) (name.Explicit 0))) else taken (plain_of parts) drops count)
-        ≡ planned (plain_of parts) (if none then plan.Held else plan.Take drops count)
-    by true = refl
-    by false = refl
+count-planned parts drops count = sym (ap-if (planned (plain_of parts)) (count == 0) plan.Held (plan.Take drops count))
 
 want-planned : (parts : Parts) (want : ℕ) → plain.pull_want (plain_of parts) want ≡ planned (plain_of parts) (agent.plan_want parts.agent (slowest (plain_of parts)) want)
 unfolding plain.pull_want
 want-planned parts want =
+    let drops = agent.drops parts.agent (slowest (plain_of parts)) want in
     ap {B = PlainPartition × Reply} (λ drops. plain.pull_count (plain_of parts) drops (min want (plain.room (plain_of parts) + BLOCK_EVENTS * drops))) (drops-are parts want)
     ∙ ap {B = PlainPartition × Reply} (λ room. plain.pull_count (plain_of parts) drops (min want (room + BLOCK_EVENTS * drops))) (room-is parts)
     ∙ count-planned parts drops (min want (cache.room parts.agent.cache + BLOCK_EVENTS * drops))
-  where
-    drops : ℕ
-    drops = agent.drops parts.agent (slowest (plain_of parts)) want
 
 pub pull-planned : (parts : Parts) (generation max_events : ℕ) → (generation == parts.agent.generation) ≡ true → plain.pull (plain_of parts) generation max_events ≡ planned (plain_of parts) (agent.plan_of parts.agent max_events (length parts.queue.events) (slowest (plain_of parts)))
 unfolding plain.pull
 pull-planned parts generation max_events current =
-    rw current (by (cache.high parts.agent.cache == length parts.queue.events) (want-planned parts want))
-  where
-    want : ℕ
-    want = min (pull_size max_events) (length parts.queue.events - cache.high parts.agent.cache)
-
-    by : (dry : Bool) → plain.pull_want (plain_of parts) want ≡ planned (plain_of parts) (agent.plan_want parts.agent (slowest (plain_of parts)) want)
-        → (if dry then (plain_of parts, reply.Dry) else plain.pull_want (plain_of parts) want)
-        ≡ planned (plain_of parts) (if dry then plan.Dry else agent.plan_want parts.agent (slowest (plain_of parts)) want)
-    by true same = refl
-    by false same = same
+    let want : ℕ = min (pull_size max_events) (length parts.queue.events - cache.high parts.agent.cache) in
+    let dry = cache.high parts.agent.cache == length parts.queue.events in
+    rw current
+    (ap {B = PlainPartition × Reply} (λ (told : PlainPartition × Reply). if dry then (plain_of parts, reply.Dry) else told) (want-planned parts want)
+    ∙ sym (ap-if (planned (plain_of parts)) dry plan.Dry (agent.plan_want parts.agent (slowest (plain_of parts)) want)))
 
 -- a plan for the log's length and the slowest resume
 pub planned-is : (parts : Parts) (generation max_events len least : ℕ) (made : Plan) → len ≡ length parts.queue.events → least ≡ slowest (plain_of parts) → Ok made ≡ agent.plan_pull parts.agent generation max_events len least
     → planned (plain_of parts) made ≡ plain.pull (plain_of parts) generation max_events
 planned-is parts generation max_events len least made is_len is_least is =
+    let answer = answered-as parts.agent generation (agent.plan_of parts.agent max_events len least) (Ok made) is in
     ap {B = PlainPartition × Reply} (λ (made : Plan). planned (plain_of parts) made)
     (answer.is ∙ ap (λ n. agent.plan_of parts.agent max_events n least) is_len ∙ ap (λ n. agent.plan_of parts.agent max_events (length parts.queue.events) n) is_least)
     ∙ sym (pull-planned parts generation max_events answer.own)
-  where
-    answer : IsAnswered parts.agent generation (agent.plan_of parts.agent max_events len least) made
-    answer = answered-as parts.agent generation (agent.plan_of parts.agent max_events len least) (Ok made) is
 
 -- the agent was replaced
 pub pull-replaced : (parts : Parts) (generation max_events len least : ℕ) (stale : StaleAgent) → Err stale ≡ agent.plan_pull parts.agent generation max_events len least

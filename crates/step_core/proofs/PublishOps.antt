@@ -1,5 +1,5 @@
 -- What producers ask leaves parts that agree with each other.
-use Rattle.step_core.proofs.Prelude.{PlainQueue, append, Appended, high, bare, ◌≡◌, ◌∙◌, ap, subst, sym, refl, ℕ, suc, ◌+◌, ◌≤◌, Bool, true, false, ◌||◌, List, [], ◌++◌, length, map, ◌==◌, nat_lt, arith, append-nil, if◌then◌else◌, Result, Err, AllocError, events_of, Performs, Event, StreamId, BATCH_EVENTS, between, Reply, PlainPartition}
+use Rattle.step_core.proofs.Prelude.{PlainQueue, append, Appended, high, bare, ◌≡◌, ◌∙◌, ap, subst, sym, refl, ℕ, ◌+◌, ◌≤◌, true, ◌||◌, List, [], ◌++◌, length, map, ◌==◌, nat_lt, arith, append-nil, Result, Err, AllocError, events_of, Performs, Event, StreamId, BATCH_EVENTS, between, Reply, PlainPartition, cond_both}
 use Rattle.std.specs.Prelude.{Ok}
 use Rattle.stream_model.specs.Publishing.{publish}
 use Rattle.stream_model.specs.Step as plain
@@ -20,21 +20,10 @@ pub record IsLonger (old new : PlainQueue) : Type 0 where
 
 append-longer : (q : PlainQueue) (stream : StreamId) (payloads : List (List ℕ)) → IsLonger q (append q stream payloads).0
 append-longer q stream payloads =
-    by ((length payloads == 0) || nat_lt BATCH_EVENTS (length payloads)) (nat_lt q.limit (length q.events + length payloads))
-  where
-    added : PlainQueue
-    added = record { events = q.events ++ events_of stream q.batches 0 payloads; batches = suc q.batches; limit = q.limit }
-
-    same : IsLonger q q
-    same = record { more = []; events = sym (append-nil q.events); limit = refl }
-
-    picked : Bool → Bool → PlainQueue × Appended
-    picked bad full = if bad then (q, appended.BadBatch) else if full then (q, appended.QueueFull) else (added, appended.Accepted q.batches)
-
-    by : (bad full : Bool) → IsLonger q (picked bad full).0
-    by true full = same
-    by false true = same
-    by false false = record { more = events_of stream q.batches 0 payloads; events = refl; limit = refl }
+    let Longer : PlainQueue × Appended → Type 0 = λ out. IsLonger q out.0 in
+    let same : IsLonger q q = record { more = []; events = sym (append-nil q.events); limit = refl } in
+    cond_both ((length payloads == 0) || nat_lt BATCH_EVENTS (length payloads)) _ _ Longer (λ _. same)
+    (λ _. cond_both (nat_lt q.limit (length q.events + length payloads)) _ _ Longer (λ _. same) (λ _. record { more = events_of stream q.batches 0 payloads; events = refl; limit = refl }))
 
 pub append-assembled : (parts : Parts) (stream : StreamId) (payloads : List (List ℕ)) → high parts.agent.cache ≤ length parts.queue.events → IsAssembled parts → IsAssembled (record parts { queue = (append parts.queue stream payloads).0 })
 append-assembled parts stream payloads end assembled =
@@ -73,8 +62,7 @@ appends-assembled parts stream payloads new (Err e) end assembled unchanged = su
 -- only a batch that is accepted takes memory
 accepted-memory : (told : Appended) → takes_memory told ≡ plain.takes_memory (of_append told)
 accepted-memory (appended.Accepted seq) = refl
-accepted-memory appended.BadBatch = refl
-accepted-memory appended.QueueFull = refl
+accepted-memory _ = refl
 
 pub append-memory : (parts : Parts) (stream : StreamId) (payloads : List (List ℕ)) → IsAssembled parts → takes_memory (append parts.queue stream payloads).1 ≡ true → plain.takes_memory (publish (plain_of parts) stream payloads).1 ≡ true
 append-memory parts stream payloads assembled takes =

@@ -12,6 +12,7 @@ use Rattle.step_core.proofs.MoreNumbers.{numbered-more}
 use Rattle.step_core.proofs.KnownTurns.{known-grown}
 use Rattle.step_core.proofs.SubscribeOps.{grains-before}
 use Rattle.step_core.proofs.ViewLemmas.{record-added, records-length}
+use Rattle.step_core.proofs.Shared.{ap-if}
 
 -- ---- what the rules make
 
@@ -23,17 +24,9 @@ abbrev new_records : ℕ → List (SubName × Registration) → List (SubName ×
 new_records position entries = map (new_record position) entries
 
 implied-is : (position : ℕ) (event : Event) (rule : Rule) → plain.implied position event rule ≡ new_records position (implying.implied event rule)
-implied-is position event rule = by (same_name event.stream.namespace rule.namespace && not (token_lt event.token (batch_token rule.from)))
-  where
-    entry : SubName × Registration
-    entry = (
-      name.Implicit rule.kind event.stream,
-      record { stream = event.stream; grain = record { kind = rule.kind; key = event.stream.key }; start = batch_token rule.from; is_open = true },
-    )
-
-    by : (makes : Bool) → (if makes then new_record position entry ∷ [] else []) ≡ new_records position (if makes then entry ∷ [] else [])
-    by true = refl
-    by false = refl
+implied-is position event rule =
+    sym (ap-if (new_records position) (same_name event.stream.namespace rule.namespace && not (token_lt event.token (batch_token rule.from)))
+    ((name.Implicit rule.kind event.stream, record { stream = event.stream; grain = record { kind = rule.kind; key = event.stream.key }; start = batch_token rule.from; is_open = true }) ∷ []) [])
 
 -- a list made of each element, with each of what is made changed
 flat-map : {X Y Z : Type 0} (f : Y → Z) (made : X → List Y) (changed : X → List Z) (xs : List X) → ((x : X) → changed x ≡ map f (made x)) → flat_map changed xs ≡ map f (flat_map made xs)
@@ -110,27 +103,23 @@ records-made position names (entry ∷ entries) states lengths =
 pub made-view : (rules : List Rule) (position : ℕ) (names : List (SubName × Registration)) (states : List SubState) (events : List Event) → length names ≡ length states
     → subs_of (implying.names_with rules names events) (states ++ new_states position (drop (length names) (implying.names_with rules names events))) ≡ plain.subs_with rules position (subs_of names states) events
 made-view rules position names states events lengths =
+    let entries = implying.all_implied rules events in
     ap (λ ns. subs_of ns (states ++ new_states position (drop (length names) ns))) (names-added names entries)
     ∙ ap (λ more. subs_of (names ++ new_of names entries) (states ++ new_states position more)) (drop-append_seam names (new_of names entries))
     ∙ sym (records-made position names entries states lengths)
     ∙ ap (λ made. fold added (subs_of names states) made) (sym (all-implied rules position events))
-  where
-    entries : List (SubName × Registration)
-    entries = implying.all_implied rules events
 
 -- as many records as names
 pub made-length : (rules : List Rule) (position : ℕ) (names : List (SubName × Registration)) (states : List SubState) (events : List Event) → length names ≡ length states
     → length (plain.subs_with rules position (subs_of names states) events) ≡ length (implying.names_with rules names events)
 made-length rules position names states events lengths =
+    let entries = implying.all_implied rules events in
     ap length (sym (made-view rules position names states events lengths))
     ∙ ap (λ ns. length (subs_of ns (states ++ new_states position (drop (length names) ns)))) (names-added names entries)
     ∙ ap (λ new. length (subs_of (names ++ new_of names entries) (states ++ new_states position new))) (drop-append_seam names (new_of names entries))
     ∙ records-length (names ++ new_of names entries) (states ++ new_states position (new_of names entries))
     (omega (arith, lengths, length-append names (new_of names entries), length-append states (new_states position (new_of names entries)), length-map (new_of names entries) (λ (entry : SubName × Registration). new_state entry.1.start position)))
     ∙ ap length (sym (names-added names entries))
-  where
-    entries : List (SubName × Registration)
-    entries = implying.all_implied rules events
 
 -- ---- the grains see the same names
 
@@ -153,12 +142,10 @@ made-grains rules names events grains below =
 pub made-known : (rules : List Rule) (position : ℕ) (names : List (SubName × Registration)) (states : List SubState) (events : List Event) (grains : List (GrainId × PlainActivation)) → length states ≡ length names → AreBelow (length names) grains
     → AreKnown names states grains → AreKnown (implying.names_with rules names events) (states ++ new_states position (drop (length names) (implying.names_with rules names events))) grains
 made-known rules position names states events grains lengths below known =
+    let entries = implying.all_implied rules events in
     subst (λ ns. AreKnown ns (states ++ new_states position (drop (length names) ns)) grains) (sym (names-added names entries))
     (subst (λ more. AreKnown (names ++ new_of names entries) (states ++ new_states position more) grains) (sym (drop-append_seam names (new_of names entries)))
     (known-grown names (new_of names entries) states position grains known lengths below))
-  where
-    entries : List (SubName × Registration)
-    entries = implying.all_implied rules events
 
 pub made-below : (rules : List Rule) (names : List (SubName × Registration)) (events : List Event) (grains : List (GrainId × PlainActivation)) → AreBelow (length names) grains → AreBelow (length (implying.names_with rules names events)) grains
 made-below rules names events grains below =

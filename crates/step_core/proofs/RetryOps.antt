@@ -1,5 +1,5 @@
 -- What agents ask of one record: the replies, and parts that agree with each other.
-use Rattle.step_core.proofs.Prelude.{SubState, PlainQueue, Registration, IsDone, IsRefused, ack_at, handled_at, retry, StaleAgent, ◌≡◌, ◌∙◌, ap, sym, subst, refl, ℕ, ◌<◌, Bool, true, false, not, List, [], ◌∷◌, length, Some, None, arith, cond_both, All, if◌then◌else◌, SubName, Token, ack-stale, ack-unknown, retry-stale, retry-unknown, AreIn, IsWithinLimits, is_stale, Reply, PlainPartition, Subscription, AreRecords, PlainTable, no_entry, no_state, state_at, stepped}
+use Rattle.step_core.proofs.Prelude.{SubState, PlainQueue, IsDone, IsRefused, ack_at, handled_at, retry, StaleAgent, ◌≡◌, ◌∙◌, ap, sym, subst, refl, ℕ, ◌<◌, Bool, true, false, not, List, [], ◌∷◌, length, Some, None, arith, cond_both, All, if◌then◌else◌, SubName, Token, ack-stale, ack-unknown, retry-stale, retry-unknown, AreIn, IsWithinLimits, is_stale, Reply, PlainPartition, Subscription, AreRecords, PlainTable, no_entry, no_state, state_at, stepped}
 use Rattle.std.proofs.lemmas.List.Elements.{All-from_recursion}
 use Rattle.step_core.proofs.RecordOps.{no-record}
 use Rattle.stream_model.specs.declared.reply.Reply.TheVariants as reply
@@ -28,19 +28,13 @@ unchanged : (s : SubState) → Stays s s
 unchanged s = (λ is_open. is_open, λ at none. (at, none))
 
 pub retry-stays : (s : SubState) → Stays s (retry s).0
-retry-stays s = cond_both (not s.live) _ _ Kept (λ _. unchanged s) (λ _. (λ is_open. is_open, λ at none. (refl, none)))
-  where
-    Kept : SubState × Retried → Type 0
-    Kept out = Stays s out.0
+retry-stays s = cond_both (not s.live) _ _ (λ (out : SubState × Retried). Stays s out.0) (λ _. unchanged s) (λ _. (λ is_open. is_open, λ at none. (refl, none)))
 
 -- an event that is acknowledged was handled
 pub ack-stays : (s : SubState) (queue : PlainQueue) (token : Token) → Stays s (ack s queue token).0
 ack-stays s queue token =
-    cond_both (not s.live) _ _ Kept (λ _. unchanged s) (λ _. by (handled_at s.handled queue token) (λ none. ap (λ (handled : List ℕ). handled_at handled queue token) none))
+    cond_both (not s.live) _ _ (λ (out : SubState × Acked). Stays s out.0) (λ _. unchanged s) (λ _. by (handled_at s.handled queue token) (λ none. ap (λ (handled : List ℕ). handled_at handled queue token) none))
   where
-    Kept : SubState × Acked → Type 0
-    Kept out = Stays s out.0
-
     by : (positions : List ℕ) → (s.handled ≡ [] → positions ≡ []) → Stays s (ack_at s positions).0
     by [] empty = unchanged s
     by (position ∷ positions) empty = (λ is_open. is_open, λ at none. absurd (let is : position ∷ positions ≡ [] = empty none in cc))
@@ -94,19 +88,13 @@ module _ (parts : Parts) (generation : ℕ) (s : SubName) where
 -- the handled positions of a record are in the log
 pub handled-in : (parts : Parts) (number : ℕ) → IsWithinLimits (plain_of parts) → AreRecords parts.subs → number < length parts.subs.registry.names → All (λ position. position < length parts.queue.events) (state_at parts.subs number).handled
 handled-in parts number limits records within =
+    let names = parts.subs.registry.names in
+    let states = parts.subs.states in
+    let inside : number < length (subs_of names states) = omega (arith, within, records-length names states (sym records.long)) in
     All-from_recursion (λ position. position < length parts.queue.events) (state_at parts.subs number).handled
     (subst (λ (entry : SubName × Subscription). AreIn parts.queue.events entry.1.handled)
     (record-at names states number (sub_of no_entry no_state) no_entry no_state (sym records.long) within)
     (All-from_recursion (λ (entry : SubName × Subscription). AreIn parts.queue.events entry.1.handled) (subs_of names states) limits.handled number (sub_of no_entry no_state) inside))
-  where
-    names : List (SubName × Registration)
-    names = parts.subs.registry.names
-
-    states : List SubState
-    states = parts.subs.states
-
-    inside : number < length (subs_of names states)
-    inside = omega (arith, within, records-length names states (sym records.long))
 
 abbrev pub acking : Parts → Token → ℕ → PlainTable × Acked
 acking parts token number = stepped parts.subs number (ack (state_at parts.subs number) parts.queue token)

@@ -1,5 +1,5 @@
 -- What each operation starts from.
-use Rattle.step_core.proofs.Prelude.{AreUnique, Registration, high, ◌≡◌, subst, ℕ, ◌≤◌, true, List, length, get_or, slice_get-get_or, same_sub, SubName, IsReached, PlainPartition}
+use Rattle.step_core.proofs.Prelude.{AreUnique, Registration, high, ◌≡◌, subst, ℕ, ◌≤◌, true, List, length, get_or, slice_get-get_or, same_sub, SubName, IsReached, PlainPartition, refl, Bool, false, if◌then◌else◌}
 use Rattle.std.proofs.Math.ListN.{get_or-map}
 use Rattle.std.specs.Prelude.{reverse}
 use Rattle.stream_laws.proofs.Invariant.{Fits}
@@ -13,6 +13,11 @@ use Rattle.step_core.proofs.NamesOps.{name-of-entry}
 use Rattle.step_core.specs.Assembly.{Agrees}
 use Rattle.step_core.specs.PlainOf.{plain_of}
 use Rattle.step_core.specs.declared.parts.Parts.{Parts}
+
+-- a function of what is chosen is chosen
+pub ap-if : {A B : Type 0} (f : A → B) (b : Bool) (x y : A) → f (if b then x else y) ≡ (if b then f x else f y)
+ap-if f true x y = refl
+ap-if f false x y = refl
 
 -- the history of a partition, and what holds of both
 pub record HasHistory (p : PlainPartition) : Type 0 where

@@ -1,5 +1,5 @@
 -- An agent takes events, done by the parts.
-use Rattle.step_core.proofs.Prelude.{registered, Registration, high, bare, ◌≡◌, ◌∙◌, ap, sym, subst, refl, ℕ, zero, suc, ◌+◌, ◌-◌, ◌*◌, ◌<◌, ◌≤◌, min, Bool, true, false, List, [], ◌∷◌, ◌++◌, length, fold, map, take, drop, nat_lt, arith, take-add, drop-drop, drop-map, drop-take, length-append, length-drop, length-map, length-take, map-append, flat_map, if◌then◌else◌, Result, OnErr, Event, SubName, BLOCK_EVENTS, Rule, on-error, token_at, Reply, takes_memory, PlainPartition, Subscription, PlainTable, implied_by, new_states}
+use Rattle.step_core.proofs.Prelude.{registered, Registration, high, bare, ◌≡◌, ◌∙◌, ap, sym, subst, refl, ℕ, ◌+◌, ◌-◌, ◌*◌, ◌<◌, ◌≤◌, min, Bool, true, false, List, [], ◌∷◌, ◌++◌, length, fold, map, take, drop, nat_lt, arith, take-add, drop-drop, drop-map, drop-take, length-append, length-drop, length-map, length-take, map-append, flat_map, if◌then◌else◌, Result, OnErr, Event, SubName, BLOCK_EVENTS, Rule, on-error, token_at, Reply, takes_memory, PlainPartition, Subscription, PlainTable, implied_by, new_states}
 use Rattle.stream_ident.specs.Implying.{added}
 use Rattle.stream_ident.specs.Implying as making
 use Rattle.stream_model.specs.declared.reply.Reply.TheVariants as reply
@@ -116,6 +116,10 @@ filled-high parts drops count can =
 
 filled-cached : (parts : Parts) (drops count : ℕ) → HasEvents parts → CanTake parts drops count → HasEvents (filled parts drops count)
 filled-cached parts drops count has can =
+    let k : ℕ = BLOCK_EVENTS * drops in
+    let n = length parts.agent.cache.events in
+    let low = parts.agent.cache.low in
+    let log = parts.queue.events in
     ap (λ events. drop k events ++ map bare (ahead parts count)) (has ∙ ap (λ m. map bare (take m (drop low log))) {y = n} (omega arith))
     ∙ ap (λ events. events ++ map bare (ahead parts count)) (drop-map bare k (take n (drop low log)))
     ∙ sym (map-append bare (drop k (take n (drop low log))) (ahead parts count))
@@ -125,18 +129,6 @@ filled-cached parts drops count has can =
     ∙ splice k n count (drop low log) can.0
     ∙ ap (λ events. take ((n - k) + count) events) (drop-drop k low log)
     ∙ ap (λ m. take m (drop (low + k) log)) (omega (arith, can.0, filled-high parts drops count can)))
-  where
-    k : ℕ
-    k = BLOCK_EVENTS * drops
-
-    n : ℕ
-    n = length parts.agent.cache.events
-
-    low : ℕ
-    low = parts.agent.cache.low
-
-    log : List Event
-    log = parts.queue.events
 
 filled-assembled : (parts : Parts) (drops count : ℕ) → IsAssembled parts → CanTake parts drops count → IsAssembled (filled parts drops count)
 filled-assembled parts drops count assembled can =

@@ -112,13 +112,9 @@ begin-idle parts g i max_events busy found none is_busy =
     empty [] none = refl
     empty (d ∷ ds) none = absurd (cc)
 
-    idle : Bool → PlainPartition × Reply
-    idle busy = (plain_of parts, if busy then reply.Busy else reply.Empty)
-
-    by : (busy active : Bool) → (if busy then (plain_of parts, reply.Busy) else if not active then (plain_of parts, reply.Empty) else (plain_of parts, reply.Empty)) ≡ idle busy
-    by true active = refl
+    by : (busy active : Bool) → ◌≡◌ {A = PlainPartition × Reply} (if busy then (plain_of parts, reply.Busy) else if not active then (plain_of parts, reply.Empty) else (plain_of parts, reply.Empty)) (plain_of parts, if busy then reply.Busy else reply.Empty)
     by false true = refl
-    by false false = refl
+    by _ _ = refl
 
 -- the front delivery is of a number that is given
 pub front-numbered : (n : ℕ) (mailbox : List Delivery) (front : Delivery) → slice_get mailbox 0 ≡ Some front → AllByRecursion (λ (d : Delivery). d.sub < n) mailbox → front.sub < n

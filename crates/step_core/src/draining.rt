@@ -163,9 +163,6 @@ fn serve_number(partition: &mut Partition, alloc: Global, number: usize) -> Resu
     ensures { Follows partition.old partition.new result
         (serve (name_of partition.old number) partition.old (sub_at partition.old (name_of partition.old number))) }
 {
-    if partition.catch_up(number) {
-        return Ok(());
-    }
     let most = partition.high().saturating_sub(partition.cursor(number));
     for done in 0..most {
         if !partition.handle_next(alloc, number) {

@@ -14,7 +14,7 @@ ghost use Rattle.subscription_table.specs.LeavesOf.{leaves_of};
 ghost use Rattle.subscription_table.specs.Table.{name_at};
 ghost use Rattle.stream_model.specs.Replies.{IsNoTurn};
 ghost use Rattle.step_core.specs.Assembly.{Agrees};
-ghost use Rattle.step_core.specs.Deliverables.{is_deliverable};
+ghost use Rattle.step_core.specs.Deliverables.{is_deliverable, next_of};
 ghost use Rattle.step_core.specs.PlainOf.{plain_of};
 ghost use Rattle.step_core.specs.Records.{record_of};
 ghost use Rattle.step_core.specs.Replied.{reply_of};
@@ -187,7 +187,7 @@ fn least_deliverable(parts: &Parts) -> Option<SubName>
 {
     let mut last = None;
     while let Some(number) = next_due(parts, last) {
-        if has_next(parts, number) {
+        if next_of(parts, number).is_some() {
             return Some(parts.subs.name(number));
         }
         last = Some(number);
@@ -195,18 +195,18 @@ fn least_deliverable(parts: &Parts) -> Option<SubName>
     None
 }
 
-/// Whether the subscription with a number is open and has a next event in the cache.
-fn has_next(parts: &Parts, number: usize) -> bool
+/// The next event of the cache that the subscription with a number is owed, where it is open.
+pub(crate) fn next_of(parts: &Parts, number: usize) -> Option<usize>
     requires agrees { Agrees parts.now }
-    requires within { number < length parts.now.subs.registry.names }
-    ensures { result ≡ is_deliverable (plain_of parts.now) (record_of parts.now number) }
+    requires number { number < length parts.now.subs.registry.names }
+    ensures { result ≡ next_of (plain_of parts.now) (record_of parts.now number) }
 {
     let state = parts.subs.state(number);
     if !state.live {
-        return false;
+        return None;
     }
     let cache = parts.agent.cache();
     let stream = parts.subs.stream(number);
     let tag = parts.subs.tag(number);
-    next(cache, state.cursor, stream, tag, &state.start).is_some()
+    next(cache, state.cursor, stream, tag, &state.start)
 }

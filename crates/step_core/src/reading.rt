@@ -128,13 +128,8 @@ pub(crate) fn last_handled(parts: &Parts, sub: &SubName) -> Option<Token>
     requires { Agrees parts.now }
     ensures { result ≡ last_handled (plain_of parts.now) (sub_at (plain_of parts.now) sub.now) }
 {
-    let subs = &parts.subs;
-    let number = subs.find(sub)?;
-    let state = subs.state(number);
-    if state.handled.as_slice().is_empty() {
-        return None;
-    }
-    Some(parts.queue.token_at(state.handled.past().saturating_sub(1)))
+    let last = handled_positions(parts, sub).last()?;
+    Some(parts.queue.token_at(*last))
 }
 
 /// The positions of the events that a subscription has handled, none where it has no record.
@@ -154,14 +149,7 @@ pub(crate) fn handled(parts: &Parts, alloc: Global, sub: &SubName) -> Result<Vec
     requires { Agrees parts.now }
     ensures { IfOk result (λ events. events.items ≡ handled_of (plain_of parts.now) sub.now) }
 {
-    match parts.subs.find(sub) {
-        Some(number) => events_at(
-            &parts.queue,
-            alloc,
-            parts.subs.state(number).handled.as_slice(),
-        ),
-        None => Ok(Vec::new(alloc)),
-    }
+    events_at(&parts.queue, alloc, handled_positions(parts, sub))
 }
 
 /// The events at these positions of the log.

@@ -10,9 +10,9 @@ ghost use Rattle.step_core.specs.PlainOf.{plain_of};
 ghost use Rattle.step_core.specs.Records.{record_of};
 ghost use Rattle.step_core.specs.Serving.{is_held, resting_grain, CatchesUp, CatchesUpFrom, HandlesNext, IsFresh};
 
+use crate::looking::next_of;
 use crate::parts::Parts;
 use crate::reading::is_spent;
-use cache_cursor::next;
 use pulling_agent::Sought;
 use std::alloc::{AllocError, Global};
 use stream_ident::Row;
@@ -118,22 +118,11 @@ fn fresh_next(parts: &Parts, number: usize) -> Option<usize>
     requires number { number < length parts.now.subs.registry.names }
     ensures { IfSome result (IsFresh (plain_of parts.now) (record_of parts.now number)) }
 {
-    let state = parts.subs.state(number);
-    if !state.live {
-        return None;
-    }
-    let handled = state.handled.past();
+    let handled = parts.subs.state(number).handled.past();
     if handled == 0 {
         return None;
     }
-    let stream = parts.subs.stream(number);
-    let position = next(
-        parts.agent.cache(),
-        state.cursor,
-        stream,
-        parts.subs.tag(number),
-        &state.start,
-    )?;
+    let position = next_of(parts, number)?;
     if position < handled {
         return None;
     }

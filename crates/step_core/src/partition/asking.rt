@@ -4,9 +4,7 @@ ghost use Rattle.std.specs.Prelude.{◌≡◌, ◌<◌, true, length, IfSome, On
 ghost use Rattle.stream_ident.specs.Words.{Performs};
 ghost use Rattle.stream_model.specs.declared.op.Op.TheVariants.{Ack, Begin, Commit, Deliver, Pull};
 ghost use Rattle.stream_model.specs.Memory.{may_allocate};
-ghost use Rattle.stream_model.specs.Step.{step, IsReached};
-ghost use Rattle.step_core.specs.Assembly.{Agrees, IsAssembled};
-ghost use Rattle.step_core.specs.PlainOf.{plain_of};
+ghost use Rattle.stream_model.specs.Step.{step};
 ghost use Rattle.step_core.specs.Replied.{replied, reply_of, reply_with};
 ghost use Rattle.step_core.specs.Serving.{name_of, CatchesUp, CatchesUpFrom, HandlesNext};
 
@@ -14,7 +12,6 @@ use crate::acknowledging::ack;
 use crate::delivering::deliver;
 use crate::outcome::Outcome;
 use crate::partition::Partition;
-use crate::parts::Parts;
 use crate::pulling::pull;
 use crate::serving::{catch_up, catch_up_from, handle_next};
 use crate::turns::{begin, commit};
@@ -30,7 +27,8 @@ impl Partition {
         ensures memory { OnErr result (may_allocate self.old (Pull self.old.generation max) ≡ true) }
         ensures performs { Performs self.old self.new (replied result) (step self.old (Pull self.old.generation max)) }
     {
-        let told = pull_now(&mut self.parts, alloc, max);
+        let generation = self.parts.agent.generation();
+        let told = pull(&mut self.parts, alloc, generation, max);
         let _lengths = (self.parts.subs.len(), self.parts.grains.len());
         told
     }
@@ -43,7 +41,8 @@ impl Partition {
         ensures memory { OnErr result (may_allocate self.old (Deliver self.old.generation sub.now) ≡ true) }
         ensures performs { Performs self.old self.new (replied result) (step self.old (Deliver self.old.generation sub.now)) }
     {
-        let told = deliver_now(&mut self.parts, alloc, sub);
+        let generation = self.parts.agent.generation();
+        let told = deliver(&mut self.parts, alloc, generation, sub);
         let _lengths = (self.parts.subs.len(), self.parts.grains.len());
         told
     }
@@ -87,7 +86,8 @@ impl Partition {
     pub(crate) fn ack(&mut self, sub: &SubName, token: Token) -> Outcome
         ensures { (self.new, reply_of result) ≡ step self.old (Ack self.old.generation sub.now token) }
     {
-        let told = ack_now(&mut self.parts, sub, token);
+        let generation = self.parts.agent.generation();
+        let told = ack(&mut self.parts, generation, sub, token);
         let _lengths = (self.parts.subs.len(), self.parts.grains.len());
         told
     }
@@ -96,7 +96,7 @@ impl Partition {
     pub(crate) fn begin(&mut self, grain: &GrainId, max: u32) -> Outcome
         ensures { (self.new, reply_with self.new.log result) ≡ step self.old (Begin grain.now max) }
     {
-        let outcome = begin_now(&mut self.parts, grain, max);
+        let outcome = begin(&mut self.parts, grain, max);
         let _lengths = (self.parts.subs.len(), self.parts.grains.len());
         outcome
     }
@@ -116,66 +116,8 @@ impl Partition {
         ensures memory { OnErr result (may_allocate self.old (Commit grain.now activation turn note) ≡ true) }
         ensures performs { Performs self.old self.new (replied result) (step self.old (Commit grain.now activation turn note)) }
     {
-        let told = commit_now(&mut self.parts, alloc, grain, activation, turn, note);
+        let told = commit(&mut self.parts, alloc, grain, activation, turn, note);
         let _lengths = (self.parts.subs.len(), self.parts.grains.len());
         told
     }
-}
-
-/// The current agent pulls.
-fn pull_now(parts: &mut Parts, alloc: Global, max: u32) -> Result<Outcome, AllocError>
-    requires { Agrees parts.old }
-    ensures assembled { IsAssembled parts.new }
-    ensures performs { Performs (plain_of parts.old) (plain_of parts.new) (replied result) (step (plain_of parts.old) (Pull parts.old.agent.generation max)) }
-    ensures memory { OnErr result (may_allocate (plain_of parts.old) (Pull parts.old.agent.generation max) ≡ true) }
-{
-    let generation = parts.agent.generation();
-    pull(parts, alloc, generation, max)
-}
-
-/// The current agent delivers.
-fn deliver_now(parts: &mut Parts, alloc: Global, sub: &SubName) -> Result<Outcome, AllocError>
-    requires { Agrees parts.old }
-    ensures assembled { IsAssembled parts.new }
-    ensures performs { Performs (plain_of parts.old) (plain_of parts.new) (replied result) (step (plain_of parts.old) (Deliver parts.old.agent.generation sub.now)) }
-    ensures memory { OnErr result (may_allocate (plain_of parts.old) (Deliver parts.old.agent.generation sub.now) ≡ true) }
-{
-    let generation = parts.agent.generation();
-    deliver(parts, alloc, generation, sub)
-}
-
-/// The current agent acknowledges.
-fn ack_now(parts: &mut Parts, sub: &SubName, token: Token) -> Outcome
-    requires { Agrees parts.old }
-    ensures assembled { IsAssembled parts.new }
-    ensures performs { (plain_of parts.new, reply_of result) ≡ step (plain_of parts.old) (Ack parts.old.agent.generation sub.now token) }
-{
-    let generation = parts.agent.generation();
-    ack(parts, generation, sub, token)
-}
-
-/// A worker begins a turn.
-fn begin_now(parts: &mut Parts, grain: &GrainId, max: u32) -> Outcome
-    requires { Agrees parts.old }
-    ensures assembled { IsAssembled parts.new }
-    ensures performs { (plain_of parts.new, reply_with parts.new.queue.events result) ≡ step (plain_of parts.old) (Begin grain.now max) }
-{
-    begin(parts, grain, max)
-}
-
-/// A worker ends a turn.
-fn commit_now(
-    parts: &mut Parts,
-    alloc: Global,
-    grain: &GrainId,
-    activation: u64,
-    turn: u64,
-    note: u64,
-) -> Result<Outcome, AllocError>
-    requires { Agrees parts.old }
-    ensures assembled { IsAssembled parts.new }
-    ensures performs { Performs (plain_of parts.old) (plain_of parts.new) (replied result) (step (plain_of parts.old) (Commit grain.now activation turn note)) }
-    ensures memory { OnErr result (may_allocate (plain_of parts.old) (Commit grain.now activation turn note) ≡ true) }
-{
-    commit(parts, alloc, grain, activation, turn, note)
 }

@@ -1,9 +1,7 @@
-use Rattle.step_core.proofs.Prelude.{◌≡◌, ◌∙◌, Some, None, ap, sym, subst, length, arith, err_from_is_err_and, option_map, sub_at, PlainPartition}
-use Rattle.stream_model.specs.Draining.{serve}
-use Rattle.step_core.specs.DrainPhases.{Ends, halted}
+use Rattle.step_core.proofs.Prelude.{◌≡◌, ◌∙◌, None, ap, sym, length, arith, err_from_is_err_and, option_map, PlainPartition}
 use Rattle.step_core.specs.Serving.{name_of, next_due}
-use Rattle.step_core.proofs.CatchRuns.{caught-from, served-from}
-use Rattle.step_core.proofs.DueNames.{goes-on-done, goes-on-first, goes-on-halted, length-stays}
+use Rattle.step_core.proofs.CatchRuns.{caught-from, halted-from, served-from}
+use Rattle.step_core.proofs.DueNames.{goes-on-done, goes-on-first}
 use Rattle.step_core.proofs.draining.serve_each.Goals as goal
 
 pub loop-number-init : goal.loop-number-init
@@ -18,16 +16,8 @@ serve_number-requires c = omega (arith, c.in-Some.ensures.within, ap (λ (p : Pl
 pub returns-in_err-serve_number-in-None : goal.returns-in_err-serve_number-in-None
 returns-in_err-serve_number-in-None c =
     let e = err_from_is_err_and c.from_residual.result c.from_residual.ensures.1 in
-    let here = c.loop-number.partition in
-    let new = c.serve_number.new.partition in
-    let number = c.in-Some.number in
-    let d = name_of here number in
-    let last = option_map (name_of here) c.loop-number.last in
-    let next : Some d ≡ next_due here last = sym (ap (option_map (name_of here)) c.in-Some.is) ∙ c.next_due.ensures.next in
-    let why = c.in_err-serve_number-in-None.field-0.0 in
-    let stopped : Ends here new (halted why) (serve d here (sub_at here d)) =
-    subst (λ (p : PlainPartition). Ends p new (halted why) (serve (name_of p number) p (sub_at p (name_of p number)))) c.in-None.ensures.told c.in_err-serve_number-in-None.ensures in
-    rw (e.1, e.2) (goes-on-halted c.args.partition.now here new last d why c.next_due.ensures.reached c.loop-number.invariant.0 next stopped)
+    rw (e.1, e.2)
+    (halted-from c.args.partition.now c.loop-number.partition c.serve_number.new.partition c.loop-number.last c.next_due.result c.in-Some.number c.next_due.ensures.reached c.loop-number.invariant.0 c.in-Some.is c.next_due.ensures.next c.catch_up_from.new.self c.in_err-serve_number-in-None.field-0.0 c.in-None.ensures.told c.in_err-serve_number-in-None.ensures)
 
 pub loop-number-smaller : goal.loop-number-smaller
 loop-number-smaller c =
@@ -35,14 +25,8 @@ loop-number-smaller c =
 
 pub loop-number-preserved : goal.loop-number-preserved
 loop-number-preserved c =
-    let here = c.loop-number.partition in
-    let mid = c.serve_number.new.partition in
-    let d = name_of here c.in-Some.number in
-    let served : Ends here mid (Some None) (serve d here (sub_at here d)) =
-    subst (λ (p : PlainPartition). Ends p mid (Some None) (serve (name_of p c.in-Some.number) p (sub_at p (name_of p c.in-Some.number)))) c.in-None.ensures.told c.in_ok-serve_number-in-None.ensures in (
-      (served-from c.args.partition.now c.loop-number.partition c.serve_number.new.partition c.loop-number.last c.next_due.result c.in-Some.number c.next_due.ensures.reached c.loop-number.invariant.0 c.in-Some.is c.next_due.ensures.next c.catch_up_from.new.self c.in-None.ensures.told c.in_ok-serve_number-in-None.ensures).goes,
-      omega (arith, c.in-Some.ensures.within, length-stays here mid d served),
-    )
+    let from = served-from c.args.partition.now c.loop-number.partition c.serve_number.new.partition c.loop-number.last c.next_due.result c.in-Some.number c.next_due.ensures.reached c.loop-number.invariant.0 c.in-Some.is c.next_due.ensures.next c.catch_up_from.new.self c.in-None.ensures.told c.in_ok-serve_number-in-None.ensures in
+    (from.goes, omega (arith, c.in-Some.ensures.within, from.long))
 
 pub loop-number-smaller-in-Some-catch_up_from : goal.loop-number-smaller-in-Some-catch_up_from
 loop-number-smaller-in-Some-catch_up_from c =

@@ -3,4 +3,4 @@ use Rattle.step_core.proofs.ServeOps.{Serves}
 use Rattle.step_core.proofs.draining.serve_number.Given as goal
 
 abbrev pub invariant-loop-done : goal.invariant-loop-done
-invariant-loop-done l = Serves l.fn.partition l.partition l.number l.most (l.most - l.done)
+invariant-loop-done l = Serves l.fn.partition l.partition l.number (l.most - l.done)

@@ -1,8 +1,9 @@
-use Rattle.step_core.proofs.Prelude.{◌≡◌, ◌∙◌, Some, ap, sym, refl, option_map, sub_at, name_at, no_entry, no_state}
+use Rattle.step_core.proofs.Prelude.{◌≡◌, ◌∙◌, Some, ap, sym, refl, is_some, option_map, sub_at, name_at, no_entry, no_state}
 use Rattle.step_core.specs.PlainOf.{plain_of}
 use Rattle.step_core.specs.Records.{record_of}
 use Rattle.step_core.specs.Serving.{next_due}
 use Rattle.step_core.proofs.DueNames.{fewer-past, least-found, least-nowhere, past-more}
+use Rattle.step_core.proofs.PendingOps.{deliverable-is}
 use Rattle.step_core.proofs.NamesOps.{record-of-number}
 use Rattle.step_core.proofs.Shared.{distinct-of-unique, name-same}
 use Rattle.step_core.proofs.looking.least_deliverable.Goals as goal
@@ -13,8 +14,8 @@ loop-number-init c = (λ s r found is. refl, tt)
 pub next_due-requires-clause-after : goal.next_due-requires-clause-after
 next_due-requires-clause-after c = c.loop-number.invariant.1
 
-pub returns-then-has_next : goal.returns-then-has_next
-returns-then-has_next c =
+pub returns-then-is_some : goal.returns-then-is_some
+returns-then-is_some c =
     let parts = c.args.parts.now in
     let p = plain_of parts in
     let n = c.in-Some.number in
@@ -23,7 +24,7 @@ returns-then-has_next c =
     let next : Some (name n) ≡ next_due p last = sym (ap (option_map name) c.in-Some.is) ∙ c.next_due.ensures.next in
     let found : sub_at p (name n) ≡ Some (record_of parts n) =
     ap (sub_at p) (sym (name-same parts.subs n)) ∙ record-of-number parts n no_entry no_state (distinct-of-unique parts.subs.registry.names c.requires.unique) (sym c.requires.records.long) c.in-Some.ensures.within in
-    ap Some c.name.ensures ∙ least-found p last (name n) (record_of parts n) c.requires.reached c.loop-number.invariant.0 next found (sym c.has_next.ensures ∙ c.if-has_next.true)
+    ap Some c.name.ensures ∙ least-found p last (name n) (record_of parts n) c.requires.reached c.loop-number.invariant.0 next found (deliverable-is p (record_of parts n) ∙ ap is_some (sym c.next_of.ensures) ∙ sym c.is_some.ensures ∙ c.if-is_some.true)
 
 pub loop-number-smaller : goal.loop-number-smaller
 loop-number-smaller c =
@@ -43,7 +44,7 @@ loop-number-preserved c =
     let next : Some (name n) ≡ next_due p last = sym (ap (option_map name) c.in-Some.is) ∙ c.next_due.ensures.next in
     let found : sub_at p (name n) ≡ Some (record_of parts n) =
     ap (sub_at p) (sym (name-same parts.subs n)) ∙ record-of-number parts n no_entry no_state (distinct-of-unique parts.subs.registry.names c.requires.unique) (sym c.requires.records.long) c.in-Some.ensures.within in
-    (past-more p last (name n) (record_of parts n) c.requires.reached c.loop-number.invariant.0 next found (sym c.has_next.ensures ∙ c.if-has_next.false), c.in-Some.ensures.within)
+    (past-more p last (name n) (record_of parts n) c.requires.reached c.loop-number.invariant.0 next found (deliverable-is p (record_of parts n) ∙ ap is_some (sym c.next_of.ensures) ∙ sym c.is_some.ensures ∙ c.if-is_some.false), c.in-Some.ensures.within)
 
 pub returns : goal.returns
 returns c =

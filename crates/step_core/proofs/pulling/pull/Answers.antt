@@ -34,20 +34,14 @@ take-requires-clause-current c =
     let answer = answered-as parts.agent c.args.generation (plan_of parts.agent c.args.max c.len-len.result c.least_resume-least.result) (Ok (plan.Take c.in-Ok-Take.drops c.in-Ok-Take.count)) (planned_as c.in-Ok-Take.field-0-is ∙ c.in-Ok-Take.ensures.plan) in
     eqb-true c.args.generation parts.agent.generation answer.own
 
-pub returns-in-Ok-Take-clause-performs : goal.returns-in-Ok-Take-clause-performs
-returns-in-Ok-Take-clause-performs c =
-    subst (λ (done : Answer). Performs (plain_of c.args.parts.now) (plain_of c.take.new.parts) (replied c.take.result) done)
-    (planned-is c.args.parts.now c.args.generation c.args.max c.len-len.result c.least_resume-least.result (plan.Take c.in-Ok-Take.drops c.in-Ok-Take.count) c.len-len.ensures.count c.least_resume-least.ensures (planned_as c.in-Ok-Take.field-0-is ∙ c.in-Ok-Take.ensures.plan))
-    c.take.ensures.performs
-
-pub returns-in-Ok-Take-clause-memory : goal.returns-in-Ok-Take-clause-memory
-returns-in-Ok-Take-clause-memory c =
-    subst (λ (done : Answer). OnErr c.take.result (takes_memory done.1 ≡ true))
-    (planned-is c.args.parts.now c.args.generation c.args.max c.len-len.result c.least_resume-least.result (plan.Take c.in-Ok-Take.drops c.in-Ok-Take.count) c.len-len.ensures.count c.least_resume-least.ensures (planned_as c.in-Ok-Take.field-0-is ∙ c.in-Ok-Take.ensures.plan))
-    c.take.ensures.memory
-
-pub returns-in-Ok-Take-clause-makes : goal.returns-in-Ok-Take-clause-makes
-returns-in-Ok-Take-clause-makes c =
-    subst (λ (done : Answer). OnErr c.take.result (length (plain_of c.args.parts.now).subs < length done.0.subs))
-    (planned-is c.args.parts.now c.args.generation c.args.max c.len-len.result c.least_resume-least.result (plan.Take c.in-Ok-Take.drops c.in-Ok-Take.count) c.len-len.ensures.count c.least_resume-least.ensures (planned_as c.in-Ok-Take.field-0-is ∙ c.in-Ok-Take.ensures.plan))
-    c.take.ensures.makes
+pub returns-in-Ok-Take : goal.returns-in-Ok-Take
+returns-in-Ok-Take c =
+    let p = plain_of c.args.parts.now in
+    let is = planned-is c.args.parts.now c.args.generation c.args.max c.len-len.result c.least_resume-least.result (plan.Take c.in-Ok-Take.drops c.in-Ok-Take.count) c.len-len.ensures.count c.least_resume-least.ensures (planned_as c.in-Ok-Take.field-0-is ∙ c.in-Ok-Take.ensures.plan) in
+    record {
+      assembled = c.take.ensures.assembled;
+      performs = subst (λ (done : Answer). Performs p (plain_of c.take.new.parts) (replied c.take.result) done) is c.take.ensures.performs;
+      told = c.take.ensures.told;
+      memory = subst (λ (done : Answer). OnErr c.take.result (takes_memory done.1 ≡ true)) is c.take.ensures.memory;
+      makes = subst (λ (done : Answer). OnErr c.take.result (length p.subs < length done.0.subs)) is c.take.ensures.makes;
+    }

@@ -15,22 +15,19 @@ deliver-requires-clause-cursor c =
 pub deliver-requires-clause-high : goal.deliver-requires-clause-high
 deliver-requires-clause-high c = omega (arith, high-few c.args.parts.now c.requires.agrees)
 
-pub returns-in-Ok-Nothing-clause-assembled : goal.returns-in-Ok-Nothing-clause-assembled
-returns-in-Ok-Nothing-clause-assembled c =
-    let parts = c.args.parts.now in
-    let stands : Stands parts c.args.number = record { agrees = c.requires.agrees; within = c.requires.number } in
-    caught-assembled parts c.deliver.new.self c.args.number stands
-    (searched-is parts c.generation-generation.result c.deliver.new.self c.args.number false sought.Nothing c.in-Ok-Nothing.field-0 c.in-Ok-Nothing.field-0-is c.in-Ok-Nothing.ensures.sought)
-
-pub returns-in-Ok-Nothing-clause-told : goal.returns-in-Ok-Nothing-clause-told
-returns-in-Ok-Nothing-clause-told c =
+pub returns-in-Ok-Nothing : goal.returns-in-Ok-Nothing
+returns-in-Ok-Nothing c =
     let parts = c.args.parts.now in
     let stands : Stands parts c.args.number = record { agrees = c.requires.agrees; within = c.requires.number } in
     let state = state_at parts.subs c.args.number in
     let reach : past state.handled ≤ max state.cursor (high parts.agent.cache) =
     ltb-false (max state.cursor (high parts.agent.cache)) (past state.handled) (sym c.is_ahead.ensures ∙ c.if-is_ahead.false) in
-    caught-up parts c.deliver.new.self c.args.number stands (sym c.is_held.ensures ∙ c.if-is_held.false) reach
-    (searched-is parts c.generation-generation.result c.deliver.new.self c.args.number false sought.Nothing c.in-Ok-Nothing.field-0 c.in-Ok-Nothing.field-0-is c.in-Ok-Nothing.ensures.sought)
+    let searched : Searched parts c.deliver.new.self c.args.number false sought.Nothing =
+    searched-is parts c.generation-generation.result c.deliver.new.self c.args.number false sought.Nothing c.in-Ok-Nothing.field-0 c.in-Ok-Nothing.field-0-is c.in-Ok-Nothing.ensures.sought in
+    record {
+      assembled = caught-assembled parts c.deliver.new.self c.args.number stands searched;
+      told = caught-up parts c.deliver.new.self c.args.number stands (sym c.is_held.ensures ∙ c.if-is_held.false) reach searched;
+    }
 
 pub returns-in-Ok-Next-clause-assembled : goal.returns-in-Ok-Next-clause-assembled
 returns-in-Ok-Next-clause-assembled c =

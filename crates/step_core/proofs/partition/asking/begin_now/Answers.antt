@@ -1,6 +1,0 @@
-use Rattle.stream_model.specs.Step.{step}
-use Rattle.step_core.proofs.partition.asking.begin_now.Goals as goal
-
-pub returns-clause-performs : goal.returns-clause-performs
-unfolding step
-returns-clause-performs c = c.begin.ensures.performs
