@@ -70,21 +70,14 @@ list_all-weaker p q weaker (x ∷ xs) all =
     let parts = and_parts (p x) (list_all p xs) all in
     and_from (q x) (list_all q xs) (weaker x parts.0) (list_all-weaker p q weaker xs parts.1)
 
-name_or-ok : (bytes : List ℕ) (wrong : Option ℕ) (found : List ℕ) → name_or bytes wrong ≡ Ok found → (wrong ≡ None) × (bytes ≡ found)
-name_or-ok bytes None found e = (refl, cc)
-name_or-ok bytes (Some at_) found e = absurd cc
-
-field_or-ok : (field : ℕ) (bytes : List ℕ) (wrong : Option ℕ) (found : List ℕ) → field_or field bytes wrong ≡ Ok found → (wrong ≡ None) × (bytes ≡ found)
-field_or-ok field bytes None found e = (refl, cc)
-field_or-ok field bytes (Some at_) found e = absurd cc
-
-payload_or-ok : (bytes : List ℕ) (wrong : Option ℕ) (found : List ℕ) → payload_or bytes wrong ≡ Ok found → (wrong ≡ None) × (bytes ≡ found)
-payload_or-ok bytes None found e = (refl, cc)
-payload_or-ok bytes (Some at_) found e = absurd cc
+-- what is right is given as it is
+right_ok : {E : Type 0} (check : Option ℕ → Result (List ℕ) E) (bytes found : List ℕ) (wrong : Option ℕ) → check None ≡ Ok bytes → ((at_ : ℕ) → (e : E) × (check (Some at_) ≡ Err e)) → check wrong ≡ Ok found → (wrong ≡ None) × (bytes ≡ found)
+right_ok check bytes found None right fails e = (refl, cc)
+right_ok check bytes found (Some at_) right fails e = let failed = (fails at_).1 in absurd cc
 
 pub name_of-found : (bytes found : List ℕ) → name_of bytes ≡ Ok found → (bytes ≡ found) × IsName found
 name_of-found bytes found e =
-    let parts = name_or-ok bytes (wrong_in_name bytes) found e in
+    let parts = right_ok (name_or bytes) bytes found (wrong_in_name bytes) refl (λ at_. (_, refl)) e in
     (parts.1, subst IsName parts.1 (IsName-from_right bytes parts.0))
 
 pub name_of-again : (bytes : List ℕ) → IsName bytes → name_of bytes ≡ Ok bytes
@@ -92,21 +85,15 @@ name_of-again bytes is = ap (name_or bytes) (wrong_in_name-none bytes is)
 
 field_of-found : (field : ℕ) (bytes found : List ℕ) → field_of field bytes ≡ Ok found → (bytes ≡ found) × IsName bytes
 field_of-found field bytes found e =
-    let parts = field_or-ok field bytes (wrong_in_name bytes) found e in
+    let parts = right_ok (field_or field bytes) bytes found (wrong_in_name bytes) refl (λ at_. (_, refl)) e in
     (parts.1, IsName-from_right bytes parts.0)
 
 field_of-again : (field : ℕ) (bytes : List ℕ) → IsName bytes → field_of field bytes ≡ Ok bytes
 field_of-again field bytes is = ap (field_or field bytes) (wrong_in_name-none bytes is)
 
--- a byte of a name is none of the separators
+-- a byte of a name is no slash
 no_slash : (byte : ℕ) → is_name_byte byte ≡ true → not (byte == 47) ≡ true
 no_slash byte h = grind (arith, nat_tests)
-
-pub no_at_sign : (byte : ℕ) → is_name_byte byte ≡ true → not (byte == 64) ≡ true
-no_at_sign byte h = grind (arith, nat_tests)
-
-pub no_colon : (byte : ℕ) → is_name_byte byte ≡ true → not (byte == 58) ≡ true
-no_colon byte h = grind (arith, nat_tests)
 
 pub bare_name_found : (bytes name : List ℕ) → bare_name_field bytes ≡ Ok name → (bytes ≡ name) × IsName name
 unfolding bare_name_field
@@ -168,7 +155,7 @@ token_again token is = ap (as_fault kind.BadToken) (token_of-token_text token is
 pub payload_found : (bytes payload : List ℕ) → payload_field bytes ≡ Ok payload → (bytes ≡ payload) × IsPayload payload
 unfolding payload_field
 payload_found bytes payload e =
-    let parts = payload_or-ok bytes (wrong_in_payload bytes) payload (as_fault_ok kind.BadText (payload_of bytes) payload e) in
+    let parts = right_ok (payload_or bytes) bytes payload (wrong_in_payload bytes) refl (λ at_. (_, refl)) (as_fault_ok kind.BadText (payload_of bytes) payload e) in
     (parts.1, subst IsPayload parts.1 (IsPayload-from_right bytes parts.0))
 
 pub payload_again : (payload : List ℕ) → IsPayload payload → payload_field payload ≡ Ok payload

@@ -19,7 +19,7 @@ use Rattle.stream_script.specs.Forms.{word_of, text_of, words_of, texts_of, queu
 use Rattle.stream_script.specs.Grammar.{IsSpelled, MayStand, Reads}
 use Rattle.stream_script.specs.Lexer.{pieces_of}
 use Rattle.stream_script.specs.Pieces.{Piece, Word, Text}
-use Rattle.stream_script.specs.Reading.{command_of, lexed, line_command, is_skipped, parsed_of, reading}
+use Rattle.stream_script.specs.Reading.{command_of, lexed, is_skipped, parsed_of, reading}
 use Rattle.stream_script.specs.Spelling.{stream_text}
 use Rattle.stream_script.specs.Verbs.{may_stand, not_here, verb_in_front}
 use Rattle.stream_script.proofs.FieldLemmas.{bind_ok, done, ok_is, guard_ok, number_found, queue_found, stream_found, grain_found, token_found, bare_name_found}
@@ -162,25 +162,18 @@ lexed-found : (m : Mode) (queues : ℕ) (found : Option (List Piece)) (command :
 lexed-found m queues None command e = absurd cc
 lexed-found m queues (Some pieces) command e = (pieces, refl, e)
 
-printable_ok : {A : Type 0} (b : Bool) (r : Result A FaultKind) (x : A) → cond b r (Err kind.BadByte) ≡ Ok x → r ≡ Ok x
-printable_ok true r x e = e
-printable_ok false r x e = absurd cc
-
-parsed_ok : (line : ℕ) (r : Result Command FaultKind) (command : Command) → parsed_of line r ≡ parsed.Command command → r ≡ Ok command
-parsed_ok line (Ok c) command e = cc
-parsed_ok line (Err fault) command e = absurd cc
-
-skipped_ok : (b : Bool) (line : ℕ) (r : Result Command FaultKind) (command : Command) → cond b parsed.Skip (parsed_of line r) ≡ parsed.Command command → r ≡ Ok command
-skipped_ok true line r command e = absurd cc
-skipped_ok false line r command e = parsed_ok line r command e
+reading_ok : (skipped printable : Bool) (line : ℕ) (r : Result Command FaultKind) (command : Command) → cond skipped parsed.Skip (parsed_of line (cond printable r (Err kind.BadByte))) ≡ parsed.Command command → r ≡ Ok command
+reading_ok true printable line r command e = absurd cc
+reading_ok false false line r command e = absurd cc
+reading_ok false true line (Ok c) command e = cc
+reading_ok false true line (Err fault) command e = absurd cc
 
 -- a line that is read as a command is made of its pieces
 pub reading-found : (queues : ℕ) (m : Mode) (line : ℕ) (bytes : List ℕ) (command : Command) → reading queues m line bytes ≡ parsed.Command command → Reads m queues bytes command
 unfolding reading
 reading-found queues m line bytes command e =
-    let read = skipped_ok (is_skipped bytes) line (line_command m queues bytes) command e in
-    let printed = printable_ok (list_all is_printable bytes) (lexed m queues (pieces_of bytes)) command read in
-    let found = lexed-found m queues (pieces_of bytes) command printed in
+    let read = reading_ok (is_skipped bytes) (list_all is_printable bytes) line (lexed m queues (pieces_of bytes)) command e in
+    let found = lexed-found m queues (pieces_of bytes) command read in
     let is = command_of-found m queues found.0 command found.2 in
     (is.0, found.0, line-pieces_of bytes found.0 found.1, is.1)
 

@@ -2,7 +2,6 @@ pub mod AgainLemmas
 pub mod BegunLemmas
 pub mod CutLemmas
 pub mod CuttingLaws
-pub mod DrainLemmas
 pub mod EachLemmas
 pub mod FieldLemmas
 pub mod FoundLemmas
@@ -14,7 +13,6 @@ pub mod PublishingLemmas
 pub mod ReadLemmas
 pub mod ReportLemmas
 pub mod Running
-pub mod SimulatorLemmas
 pub mod StandLemmas
 pub mod SubLemmas
 pub mod Texts

@@ -25,20 +25,27 @@ stops_at-drop passes (byte ∷ bytes) =
       | inr h ↦ rw (h, one-add) (stops_at-drop passes bytes)
     ]
 
+-- a byte that ends nothing is one byte more of the piece that has begun
+abbrev pub GoesOn : (List ℕ → Place) → (ℕ → Bool) → Type 0
+GoesOn place ends = (begun : List ℕ) (byte : ℕ) (bytes : List ℕ) → ends byte ≡ false → cut (place begun) (byte ∷ bytes) ≡ cut (place (begun ++ byte ∷ [])) bytes
+
+-- a piece that has begun, up to its end
+cut-up_to : (place : List ℕ → Place) (ends : ℕ → Bool) → GoesOn place ends → (begun bytes : List ℕ) → cut (place begun) bytes ≡ cut (place (begun ++ take (position_or_len ends bytes) bytes)) (drop (position_or_len ends bytes) bytes)
+cut-up_to place ends goes_on begun [] = rw (append-nil begun) refl
+cut-up_to place ends goes_on begun (byte ∷ bytes) =
+    elim (cases_Bool (ends byte)) [
+      | inl h ↦ rw (h, append-nil begun) refl
+      | inr h ↦ rw (h, one-add) (goes_on begun byte bytes h ∙ (cut-up_to place ends goes_on (begun ++ byte ∷ []) bytes ∙ ap (λ (b : List ℕ). cut (place b) (drop (position_or_len ends bytes) bytes)) (append_assoc begun (byte ∷ []) (take (position_or_len ends bytes) bytes))))
+    ]
+
+pub up_to : (place : List ℕ → Place) (ends : ℕ → Bool) → GoesOn place ends → (begun bytes front rest : List ℕ) (n : ℕ) → n ≡ position_or_len ends bytes → front ≡ take n bytes → rest ≡ drop n bytes → (cut (place begun) bytes ≡ cut (place (begun ++ front)) rest) × (stops_at ends rest ≡ true)
+up_to place ends goes_on begun bytes front rest n at_end is_front is_rest = rw (is_front, is_rest, at_end) (cut-up_to place ends goes_on begun bytes, stops_at-drop ends bytes)
+
 -- a byte inside a word
-pub cut-in_word : (word : List ℕ) (byte : ℕ) (bytes : List ℕ) → ends_word byte ≡ false → cut (InWord word) (byte ∷ bytes) ≡ cut (InWord (word ++ byte ∷ [])) bytes
+pub cut-in_word : GoesOn InWord ends_word
 cut-in_word word byte bytes inside =
     let parts = or_parts (is_space byte) (is_quote byte) inside in
     rw (parts.0, parts.1) (option_map_id (cut (InWord (word ++ byte ∷ [])) bytes))
-
--- a word up to its end
-pub cut-word : (word bytes : List ℕ) → cut (InWord word) bytes ≡ cut (InWord (word ++ take (position_or_len ends_word bytes) bytes)) (drop (position_or_len ends_word bytes) bytes)
-cut-word word [] = rw (append-nil word) refl
-cut-word word (byte ∷ bytes) =
-    elim (cases_Bool (ends_word byte)) [
-      | inl h ↦ rw (h, append-nil word) refl
-      | inr h ↦ rw (h, one-add) (cut-in_word word byte bytes h ∙ (cut-word (word ++ byte ∷ []) bytes ∙ ap (λ (w : List ℕ). cut (InWord w) (drop (position_or_len ends_word bytes) bytes)) (append_assoc word (byte ∷ []) (take (position_or_len ends_word bytes) bytes))))
-    ]
 
 ahead_again : (piece : Piece) (pieces : Option (List Piece)) → ahead piece pieces ≡ ahead piece (option_map (λ more. more) pieces)
 ahead_again piece None = refl
@@ -76,15 +83,12 @@ unwrap_or-position passes bytes =
 
 pub word_quoted : (bytes rest : List ℕ) (n : ℕ) → n ≡ position_or_len ends_word bytes → rest ≡ drop n bytes → begins_with 34 rest ≡ true → cut (InWord []) bytes ≡ None
 word_quoted bytes rest n at_end behind quoted =
-    let split : drop (position_or_len ends_word bytes) bytes ≡ rest = ap (λ (k : ℕ). drop k bytes) (sym at_end) ∙ sym behind in
-    cut-word [] bytes ∙ (rw split (cut-word_quoted (take (position_or_len ends_word bytes) bytes) rest quoted))
+    (up_to InWord ends_word cut-in_word [] bytes (take n bytes) rest n at_end refl behind).0 ∙ cut-word_quoted (take n bytes) rest quoted
 
 pub word_found : (bytes word rest : List ℕ) (n : ℕ) → n ≡ position_or_len ends_word bytes → word ≡ take n bytes → rest ≡ drop n bytes → begins_with 34 rest ≡ false → cut (InWord []) bytes ≡ ahead (Word word) (cut Between rest)
 word_found bytes word rest n at_end front behind unquoted =
-    let split : drop (position_or_len ends_word bytes) bytes ≡ rest = ap (λ (k : ℕ). drop k bytes) (sym at_end) ∙ sym behind in
-    let begun : take (position_or_len ends_word bytes) bytes ≡ word = ap (λ (k : ℕ). take k bytes) (sym at_end) ∙ sym front in
-    let stops : stops_at ends_word rest ≡ true = rw (← split) (stops_at-drop ends_word bytes) in
-    cut-word [] bytes ∙ (rw (split, begun) (cut-word_ended word rest stops unquoted))
+    let begun = up_to InWord ends_word cut-in_word [] bytes word rest n at_end front behind in
+    begun.0 ∙ cut-word_ended word rest begun.1 unquoted
 
 -- a word has one byte or more
 pub word_some : (bytes : List ℕ) → begins_word bytes ≡ true → 0 < position_or_len ends_word bytes
@@ -92,19 +96,10 @@ word_some [] begins = cc
 word_some (byte ∷ bytes) begins = rw (not-true (ends_word byte) begins) (omega arith)
 
 -- a byte that stands for itself in a text
-pub cut-in_text : (text : List ℕ) (byte : ℕ) (bytes : List ℕ) → is_special byte ≡ false → cut (InText text) (byte ∷ bytes) ≡ cut (InText (text ++ byte ∷ [])) bytes
+pub cut-in_text : GoesOn InText is_special
 cut-in_text text byte bytes plain =
     let parts = or_parts (is_quote byte) (is_backslash byte) plain in
     rw (parts.0, parts.1) (option_map_id (cut (InText (text ++ byte ∷ [])) bytes))
-
--- a text up to a quote or a backslash
-pub cut-text : (text bytes : List ℕ) → cut (InText text) bytes ≡ cut (InText (text ++ take (position_or_len is_special bytes) bytes)) (drop (position_or_len is_special bytes) bytes)
-cut-text text [] = refl
-cut-text text (byte ∷ bytes) =
-    elim (cases_Bool (is_special byte)) [
-      | inl h ↦ rw (h, append-nil text) refl
-      | inr h ↦ rw (h, one-add) (cut-in_text text byte bytes h ∙ (cut-text (text ++ byte ∷ []) bytes ∙ ap (λ (t : List ℕ). cut (InText t) (drop (position_or_len is_special bytes) bytes)) (append_assoc text (byte ∷ []) (take (position_or_len is_special bytes) bytes))))
-    ]
 
 -- a text's closing quote
 pub cut-quote : (text bytes : List ℕ) → begins_with 34 bytes ≡ true → cut (InText text) bytes ≡ cut (Closed text) (drop 1 bytes)
@@ -152,17 +147,10 @@ pub ended_stops : (rest : List ℕ) → ends_piece rest ≡ true → stops_at is
 ended_stops [] h = refl
 ended_stops (byte ∷ rest) h = h
 
--- a step of the loop over a text
-pub text_begun : (text bytes plain special : List ℕ) (n : ℕ) → n ≡ position_or_len is_special bytes → plain ≡ take n bytes → special ≡ drop n bytes → (cut (InText text) bytes ≡ cut (InText (text ++ plain)) special) × (stops_at is_special special ≡ true)
-text_begun text bytes plain special n at_end front behind =
-    let split : special ≡ drop (position_or_len is_special bytes) bytes = behind ∙ ap (λ (k : ℕ). drop k bytes) at_end in
-    let begun : plain ≡ take (position_or_len is_special bytes) bytes = front ∙ ap (λ (k : ℕ). take k bytes) at_end in
-    (rw (split, begun) (cut-text text bytes), rw split (stops_at-drop is_special bytes))
-
 -- a text without an escape
 pub plain_text_found : (bytes text special rest : List ℕ) (n : ℕ) → n ≡ position_or_len is_special bytes → text ≡ take n bytes → special ≡ drop n bytes → begins_with 34 special ≡ true → rest ≡ drop 1 special → ends_piece rest ≡ true → cut (InText []) bytes ≡ ahead (Text text) (cut Between rest)
 plain_text_found bytes text special rest n at_end front behind quoted after ends =
-    let begun = text_begun [] bytes text special n at_end front behind in
+    let begun = up_to InText is_special cut-in_text [] bytes text special n at_end front behind in
     let closed = cut-closed text rest (ended_stops rest ends) in
     begun.0 ∙ (cut-quote text special quoted ∙ (ap (cut (Closed text)) (sym after) ∙ closed))
 

@@ -1,12 +1,12 @@
 -- A loop that reads each element of a list.
-use Rattle.stream_script.proofs.Prelude.{sym, ap, ◌∙◌, subst, append_assoc, get_or, append-nil, drop_all, ℕ, List, [], ◌∷◌, Ok, refl, IsErr, IsErrAnd, ◌>>=◌}
+use Rattle.stream_script.proofs.Prelude.{sym, ap, ◌∙◌, map_push, append_assoc, get_or, append-nil, drop_all, ℕ, List, [], ◌∷◌, Ok, refl, IsErr, IsErrAnd, ◌>>=◌}
 use Rattle.std.specs.Prelude.{◌≡◌, ◌+◌, ◌<◌, ◌≤◌, ◌++◌, length, drop, map, Result, Err}
 use Rattle.stream_ident.proofs.WordLemmas.{drop-read}
 use Rattle.stream_script.specs.declared.parser.command.FaultKind.{FaultKind}
 use Rattle.stream_script.specs.declared.parser.command.LineError.{LineError}
 use Rattle.stream_script.specs.declared.parser.command.LineError.TheVariants as errors
 use Rattle.stream_script.specs.Forms.{read_all}
-use Rattle.stream_script.specs.Reading.{Fails, Gives}
+use Rattle.stream_script.specs.Reading.{Gives}
 
 -- these in front of those that the rest reads as
 abbrev pub with_read : {B : Type 0} → List B → Result (List B) FaultKind → Result (List B) FaultKind
@@ -20,23 +20,29 @@ with_one front y (Err fault) = refl
 abbrev with_next : {B C : Type 0} → (B → Result C FaultKind) → List C → List B → Result C FaultKind → Result (List C) FaultKind
 with_next read front xs first = with_read front (first >>= λ y. read_all read xs >>= λ ys. Ok (y ∷ ys))
 
--- one more element was read
-pub read_more : {A B C : Type 0} (read : B → Result C FaultKind) (view : A → B) (front : List C) (xs : List A) (i : ℕ) (x : A) (y : C) (whole : Result (List C) FaultKind)
-    → i < length xs → x ≡ get_or xs i x → read (view x) ≡ Ok y → with_read front (read_all read (map view (drop i xs))) ≡ whole
-    → with_read (front ++ y ∷ []) (read_all read (map view (drop (i + 1) xs))) ≡ whole
-read_more read view front xs i x y whole within is reads so_far =
+-- one more element was read, and pushed
+pub read_more : {A B C D : Type 0} (read : B → Result C FaultKind) (view : A → B) (value : D → C) (front after : List D) (xs : List A) (i : ℕ) (x : A) (y : D) (whole : Result (List C) FaultKind)
+    → after ≡ front ++ y ∷ [] → i < length xs → x ≡ get_or xs i x → read (view x) ≡ Ok (value y) → with_read (map value front) (read_all read (map view (drop i xs))) ≡ whole
+    → with_read (map value after) (read_all read (map view (drop (i + 1) xs))) ≡ whole
+read_more read view value front after xs i x y whole pushed within is reads so_far =
     let rest = map view (drop (i + 1) xs) in
-    sym (with_one front y (read_all read rest))
-    ∙ (ap (with_next read front rest) (sym reads)
-    ∙ (ap (λ all. with_read front (read_all read (map view all))) (sym (drop-read xs i x within is)) ∙ so_far))
+    ap (λ front. with_read front (read_all read rest)) (ap (map value) pushed ∙ map_push value front y)
+    ∙ (sym (with_one (map value front) (value y) (read_all read rest))
+    ∙ (ap (with_next read (map value front) rest) (sym reads)
+    ∙ (ap (λ all. with_read (map value front) (read_all read (map view all))) (sym (drop-read xs i x within is)) ∙ so_far)))
 
 -- an element has a fault
-pub read_stuck : {A B C : Type 0} (read : B → Result C FaultKind) (view : A → B) (front : List C) (xs : List A) (i : ℕ) (x : A) (fault : FaultKind) (whole : Result (List C) FaultKind)
-    → i < length xs → x ≡ get_or xs i x → read (view x) ≡ Err fault → with_read front (read_all read (map view (drop i xs))) ≡ whole → whole ≡ Err fault
-read_stuck read view front xs i x fault whole within is reads so_far =
+pub read_stuck : {A B C X : Type 0} (read : B → Result C FaultKind) (view : A → B) (given : X → List C) (front : List C) (xs : List A) (i : ℕ) (x : A) (fault : FaultKind) (result : Result X LineError) (whole : Result (List C) FaultKind)
+    → i < length xs → x ≡ get_or xs i x → read (view x) ≡ Err fault → with_read front (read_all read (map view (drop i xs))) ≡ whole
+    → IsErr result → IsErrAnd result (λ e. e ≡ errors.Fault fault) → Gives given result whole
+read_stuck read view given front xs i x fault (Ok done) whole within is reads so_far failed e = absurd cc
+read_stuck read view given front xs i x fault (Err error) whole within is reads so_far failed e =
+    let stuck : whole ≡ Err fault =
     sym so_far
     ∙ (ap (λ all. with_read front (read_all read (map view all))) (drop-read xs i x within is)
-    ∙ ap (with_next read front (map view (drop (i + 1) xs))) reads)
+    ∙ ap (with_next read front (map view (drop (i + 1) xs))) reads) in
+    let is : error ≡ errors.Fault fault = e in
+    rw is stuck
 
 -- all elements were read
 pub read_done : {A B C : Type 0} (read : B → Result C FaultKind) (view : A → B) (front : List C) (xs : List A) (i : ℕ) (whole : Result (List C) FaultKind)
@@ -45,9 +51,3 @@ read_done read view front xs i whole all so_far =
     sym so_far
     ∙ (ap (λ rest. with_read front (read_all read (map view rest))) (drop_all i xs all)
     ∙ ap (λ ys. Ok ys) (append-nil front))
-
--- the fault of an element is that of the list
-pub gives_fault : {X Y : Type 0} (view : X → Y) (result : Result X LineError) (fault : FaultKind) (whole : Result Y FaultKind)
-    → IsErr result → IsErrAnd result (λ e. e ≡ errors.Fault fault) → whole ≡ Err fault → Gives view result whole
-gives_fault view (Ok x) fault whole failed is e = absurd cc
-gives_fault view (Err error) fault whole failed is e = subst (λ x. Fails x whole) (sym is) e

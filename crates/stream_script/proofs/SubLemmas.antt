@@ -11,15 +11,9 @@ use Rattle.stream_script.specs.declared.parser.command.FaultKind.TheVariants as 
 use Rattle.stream_script.specs.Fields.{or_fault, as_fault, guard, number_field, queue_field, stream_field, explicit_field, implicit_field, name_from, name_field, sub_parts, sub_field, own_sub_field}
 use Rattle.stream_script.specs.Grammar.{IsStream, IsGrain, IsSub, IsQueue}
 use Rattle.stream_script.specs.Spelling.{stream_text, grain_text, name_text, sub_text}
-use Rattle.stream_script.proofs.FieldLemmas.{bind_ok, ok_is, guard_ok, or_fault_ok, as_fault_ok, number_found, number_again, queue_found, queue_again, list_all-weaker, name_of-found, name_of-again, no_at_sign, no_colon, stream_found, stream_again}
+use Rattle.stream_script.proofs.FieldLemmas.{bind_ok, ok_is, guard_ok, or_fault_ok, as_fault_ok, number_found, number_again, queue_found, queue_again, list_all-weaker, name_of-found, name_of-again, stream_found, stream_again}
 
 -- ---- subscriptions
-
-digit_no_colon : (byte : ℕ) → is_ascii_digit byte ≡ true → not (byte == 58) ≡ true
-digit_no_colon byte h = grind (arith, nat_tests)
-
-digit_no_at_sign : (byte : ℕ) → is_ascii_digit byte ≡ true → not (byte == 64) ≡ true
-digit_no_at_sign byte h = grind (arith, nat_tests)
 
 digits_all : (q : ℕ → Bool) → ((byte : ℕ) → is_ascii_digit byte ≡ true → q byte ≡ true) → (bytes : List ℕ) → all_ascii_digits bytes ≡ true → list_all q bytes ≡ true
 digits_all q weaker [] h = refl
@@ -91,10 +85,10 @@ implicit_again own_kind stream is_kind is_stream = rw (name_of-again own_kind is
 pub name_again : (sub : SubName) → IsSub sub → name_field (name_text sub) ≡ Ok sub
 unfolding name_field
 name_again (name.Explicit n) is =
-    let nowhere = split_once-nowhere 64 (decimal n) (decimal_all (λ byte. not (byte == 64)) digit_no_at_sign n (omega (arith, is.1))) in
+    let nowhere = split_once-nowhere 64 (decimal n) (decimal_all (λ byte. not (byte == 64)) (λ byte h. grind (arith, nat_tests)) n (omega (arith, is.1))) in
     ap (name_from (decimal n)) nowhere ∙ explicit_again n is.0 is.1
 name_again (name.Implicit own_kind stream) is =
-    let cut = split_once-front 64 own_kind (stream_text stream) (name_all (λ byte. not (byte == 64)) no_at_sign own_kind is.0) in
+    let cut = split_once-front 64 own_kind (stream_text stream) (name_all (λ byte. not (byte == 64)) (λ byte h. grind (arith, nat_tests)) own_kind is.0) in
     ap (name_from (name_text (name.Implicit own_kind stream))) cut ∙ implicit_again own_kind stream is.0 is.1
 
 -- what each byte of a name, and its separators, pass
@@ -131,9 +125,9 @@ sub_parts-found queues bytes found e =
 sub_parts-again : (queues queue : ℕ) (sub : SubName) → IsQueue queues queue → IsSub sub → sub_parts queues (sub_text queue sub) ≡ Ok (queue, name_text sub)
 unfolding sub_parts
 sub_parts-again queues queue sub is_queue is_sub =
-    let no_colons = decimal_all (λ byte. not (byte == 58)) digit_no_colon queue (omega (arith, is_queue.1)) in
+    let no_colons = decimal_all (λ byte. not (byte == 58)) (λ byte h. grind (arith, nat_tests)) queue (omega (arith, is_queue.1)) in
     let cut = split_once-front 58 (decimal queue) (name_text sub) no_colons in
-    let one = list_any-nowhere (λ byte. byte == 58) (name_text sub) (name_text_all (λ byte. not (byte == 58)) no_colon digit_no_colon refl refl sub is_sub) in
+    let one = list_any-nowhere (λ byte. byte == 58) (name_text sub) (name_text_all (λ byte. not (byte == 58)) (λ byte h. grind (arith, nat_tests)) (λ byte h. grind (arith, nat_tests)) refl refl sub is_sub) in
     rw (cut, one, queue_again queues queue is_queue) refl
 
 pub sub_found : (queues : ℕ) (bytes : List ℕ) (found : ℕ × SubName) → sub_field queues bytes ≡ Ok found → (bytes ≡ sub_text found.0 found.1) × IsQueue queues found.0 × IsSub found.1

@@ -26,14 +26,8 @@ pub writes_failed : {T E : Type 0} (old mid new : List ℕ) (result : Result T E
 writes_failed old mid new (Ok done) first text p q failed = absurd cc
 writes_failed old mid new (Err e) first text p q failed = starts_with_front old first new (rw (← p) q)
 
-pub two_texts : (a x b y : List ℕ) → (a ++ x) ++ (b ++ y) ≡ a ++ x ++ b ++ y
-two_texts a x b y = simp append_assoc
-
 pub three_texts : (a x b y c z : List ℕ) → ((a ++ x) ++ (b ++ y)) ++ (c ++ z) ≡ a ++ x ++ b ++ y ++ c ++ z
 three_texts a x b y c z = simp append_assoc
-
-pub text_then : (head a b c : List ℕ) → head ++ (a ++ b ++ c) ≡ head ++ a ++ b ++ c
-text_then head a b c = simp append_assoc
 
 escaped-cons : (b : Bool) (byte : ℕ) (bytes rest : List ℕ) → cond b (92 ∷ byte ∷ (bytes ++ rest)) (byte ∷ (bytes ++ rest)) ≡ cond b (92 ∷ byte ∷ bytes) (byte ∷ bytes) ++ rest
 escaped-cons true byte bytes rest = refl

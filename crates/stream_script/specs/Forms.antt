@@ -14,7 +14,7 @@ use Rattle.stream_script.specs.declared.parser.command.EachOp.TheVariants as eac
 use Rattle.stream_script.specs.declared.parser.command.FaultKind.{FaultKind}
 use Rattle.stream_script.specs.declared.parser.command.FaultKind.TheVariants as kind
 use Rattle.stream_script.specs.declared.parser.command.Verb.{Verb}
-use Rattle.stream_script.specs.declared.parser.command.Verb.TheVariants.{Pub, Sub, Unsub, Rule, Pull, Deliver, Retry, Ack, Purge, Move, Begin, Commit, Deactivate, Ready, Due, Quiet, Drain, Report, Up, Down}
+use Rattle.stream_script.specs.declared.parser.command.Verb.TheVariants.{Sub, Unsub, Rule, Pull, Deliver, Retry, Ack, Purge, Move, Begin, Commit, Deactivate, Ready, Due, Quiet, Drain, Report, Up, Down}
 use Rattle.stream_script.specs.Fields.{guard, number_field, queue_field, stream_field, grain_field, token_field, payload_field, bare_name_field, sub_field, own_sub_field}
 use Rattle.stream_script.specs.Pieces.{Piece, Word, Text}
 use Rattle.stream_script.specs.Verbs.{takes_texts}
@@ -110,10 +110,6 @@ pull_fields queues queue generation most = do
   most ← number_field (2 ^ 32) most
   Ok (command.Step queue (op.Pull generation most))
 
-abbrev pub pull_words : ℕ → List (List ℕ) → Result Command FaultKind
-pull_words queues (queue ∷ generation ∷ most ∷ []) = pull_fields queues queue generation most
-pull_words queues _ = Err kind.WordCount
-
 -- deliver GEN SUB
 unfoldable pub deliver_words : ℕ → List (List ℕ) → Result Command FaultKind
 deliver_words queues (generation ∷ sub ∷ []) = do
@@ -138,10 +134,6 @@ ack_fields queues generation sub token = do
   token ← token_field token
   Ok (command.Step sub.0 (op.Ack generation sub.1 token))
 
-abbrev pub ack_words : ℕ → List (List ℕ) → Result Command FaultKind
-ack_words queues (generation ∷ sub ∷ token ∷ []) = ack_fields queues generation sub token
-ack_words queues _ = Err kind.WordCount
-
 -- purge Q GEN KEEP
 unfoldable pub purge_fields : ℕ → List ℕ → List ℕ → List ℕ → Result Command FaultKind
 purge_fields queues queue generation keep = do
@@ -149,10 +141,6 @@ purge_fields queues queue generation keep = do
   generation ← number_field (2 ^ 64) generation
   keep ← number_field (2 ^ 32) keep
   Ok (command.Step queue (op.Purge generation keep))
-
-abbrev pub purge_words : ℕ → List (List ℕ) → Result Command FaultKind
-purge_words queues (queue ∷ generation ∷ keep ∷ []) = purge_fields queues queue generation keep
-purge_words queues _ = Err kind.WordCount
 
 -- move Q SILO
 unfoldable pub move_words : ℕ → List (List ℕ) → Result Command FaultKind
@@ -186,10 +174,6 @@ commit_fields queues queue grain activation turn note = do
   turn ← number_field (2 ^ 64) turn
   note ← number_field (2 ^ 64) note
   Ok (command.Step queue (op.Commit grain activation turn note))
-
-abbrev pub commit_words : ℕ → List (List ℕ) → Result Command FaultKind
-commit_words queues (queue ∷ grain ∷ activation ∷ turn ∷ note ∷ []) = commit_fields queues queue grain activation turn note
-commit_words queues _ = Err kind.WordCount
 
 -- deactivate Q GRAIN
 unfoldable pub deactivate_words : ℕ → List (List ℕ) → Result Command FaultKind
@@ -239,27 +223,6 @@ down_words (silo ∷ []) = do
   Ok (command.Down silo)
 down_words _ = Err kind.WordCount
 
--- what stands behind each verb
-abbrev pub sub_words : ℕ → List (List ℕ) → Result Command FaultKind
-sub_words queues (stream ∷ grain ∷ word ∷ []) = sub_latest queues stream grain word
-sub_words queues (stream ∷ grain ∷ word ∷ token ∷ []) = sub_from queues stream grain word token
-sub_words queues _ = Err kind.WordCount
-
-abbrev pub begin_words : ℕ → List (List ℕ) → Result Command FaultKind
-begin_words queues (queue ∷ grain ∷ []) = begin_one queues queue grain
-begin_words queues (queue ∷ grain ∷ most ∷ []) = begin_most queues queue grain most
-begin_words queues _ = Err kind.WordCount
-
-abbrev pub ready_words : ℕ → List (List ℕ) → Result Command FaultKind
-ready_words queues (queue ∷ []) = ready_first queues queue
-ready_words queues (queue ∷ grain ∷ []) = ready_after queues queue grain
-ready_words queues _ = Err kind.WordCount
-
-abbrev pub due_words : ℕ → List (List ℕ) → Result Command FaultKind
-due_words queues (queue ∷ []) = due_first queues queue
-due_words queues (queue ∷ sub ∷ []) = due_after queues queue sub
-due_words queues _ = Err kind.WordCount
-
 -- a command whose word stands alone
 abbrev pub alone : Command → List (List ℕ) → Result Command FaultKind
 alone command [] = Ok command
@@ -267,26 +230,30 @@ alone command _ = Err kind.WordCount
 
 -- the command of a verb behind which words alone stand
 abbrev pub words_command : Verb → ℕ → List (List ℕ) → Result Command FaultKind
-words_command Pub queues words = Err kind.WordCount
-words_command Sub queues words = sub_words queues words
+words_command Sub queues (stream ∷ grain ∷ word ∷ []) = sub_latest queues stream grain word
+words_command Sub queues (stream ∷ grain ∷ word ∷ token ∷ []) = sub_from queues stream grain word token
 words_command Unsub queues words = unsub_words queues words
 words_command Rule queues words = rule_words words
-words_command Pull queues words = pull_words queues words
+words_command Pull queues (queue ∷ generation ∷ most ∷ []) = pull_fields queues queue generation most
 words_command Deliver queues words = deliver_words queues words
 words_command Retry queues words = retry_words queues words
-words_command Ack queues words = ack_words queues words
-words_command Purge queues words = purge_words queues words
+words_command Ack queues (generation ∷ sub ∷ token ∷ []) = ack_fields queues generation sub token
+words_command Purge queues (queue ∷ generation ∷ keep ∷ []) = purge_fields queues queue generation keep
 words_command Move queues words = move_words queues words
-words_command Begin queues words = begin_words queues words
-words_command Commit queues words = commit_words queues words
+words_command Begin queues (queue ∷ grain ∷ []) = begin_one queues queue grain
+words_command Begin queues (queue ∷ grain ∷ most ∷ []) = begin_most queues queue grain most
+words_command Commit queues (queue ∷ grain ∷ activation ∷ turn ∷ note ∷ []) = commit_fields queues queue grain activation turn note
 words_command Deactivate queues words = deactivate_words queues words
-words_command Ready queues words = ready_words queues words
-words_command Due queues words = due_words queues words
+words_command Ready queues (queue ∷ []) = ready_first queues queue
+words_command Ready queues (queue ∷ grain ∷ []) = ready_after queues queue grain
+words_command Due queues (queue ∷ []) = due_first queues queue
+words_command Due queues (queue ∷ sub ∷ []) = due_after queues queue sub
 words_command Quiet queues words = alone (command.Each each.Quiet) words
 words_command Drain queues words = alone command.Drain words
 words_command Report queues words = alone command.Report words
 words_command Up queues words = up_words words
 words_command Down queues words = down_words words
+words_command _ queues words = Err kind.WordCount
 
 -- the command of a verb and the pieces behind it
 abbrev pub verb_command : Verb → ℕ → List Piece → Result Command FaultKind

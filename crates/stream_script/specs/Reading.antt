@@ -1,5 +1,5 @@
 -- What a line is: the command that it reads as, or the first step of the table of faults that holds of it.
-use Rattle.std.specs.Prelude.{◌≡◌, ℕ, ◌<◌, Bool, true, false, ◌||◌, List, [], ◌∷◌, Option, Some, None, Result, Ok, Err, ◌==◌, ⊤, if◌then◌else◌}
+use Rattle.std.specs.Prelude.{◌≡◌, ℕ, ◌<◌, Bool, true, false, ◌||◌, List, [], ◌∷◌, Option, Some, None, Result, Ok, Err, ⊤, if◌then◌else◌}
 use Rattle.std.specs.List.{list_all}
 use Rattle.stream_ident.specs.Name.{◌>>=◌}
 use Rattle.stream_ident.specs.Alphabet.{is_printable}
@@ -16,7 +16,7 @@ use Rattle.stream_script.specs.declared.parser.command.Parsed.TheVariants as par
 use Rattle.stream_script.specs.Fields.{guard}
 use Rattle.stream_script.specs.Forms.{verb_command}
 use Rattle.stream_script.specs.Pieces.{Piece, is_space}
-use Rattle.stream_script.specs.Lexer.{pieces_of}
+use Rattle.stream_script.specs.Lexer.{pieces_of, begins_with}
 use Rattle.stream_script.specs.Verbs.{verb_in_front, may_stand, not_here}
 
 abbrev pub command_of : Mode → ℕ → List Piece → Result Command FaultKind
@@ -34,12 +34,8 @@ abbrev pub line_command : Mode → ℕ → List ℕ → Result Command FaultKind
 line_command mode queues line = if list_all is_printable line then lexed mode queues (pieces_of line) else Err kind.BadByte
 
 -- empty, or spaces only, or a comment
-abbrev pub is_comment : List ℕ → Bool
-is_comment [] = false
-is_comment (byte ∷ bytes) = byte == 35
-
 abbrev pub is_skipped : List ℕ → Bool
-is_skipped line = list_all is_space line || is_comment line
+is_skipped line = list_all is_space line || begins_with 35 line
 
 abbrev pub parsed_of : ℕ → Result Command FaultKind → Parsed
 parsed_of line (Ok command) = parsed.Command command

@@ -9,8 +9,7 @@ use Rattle.stream_model.specs.Bounds.{AreLimits}
 use Rattle.stream_model.specs.declared.drain_end.DrainEnd.{DrainEnd}
 use Rattle.stream_model.specs.declared.op.Op.{Op}
 use Rattle.stream_model.specs.declared.plain.PlainPartition.{PlainPartition}
-use Rattle.stream_model.specs.Replies.{Reply}
-use Rattle.stream_model.specs.Draining.{Progress, drain}
+use Rattle.stream_model.specs.Draining.{drain}
 use Rattle.stream_model.specs.Positions.{empty}
 use Rattle.stream_model.specs.Step.{step}
 use Rattle.stream_script.specs.declared.parser.command.Command.TheVariants as command
@@ -45,52 +44,46 @@ pub record Outcome : Type 0 where
 abbrev pub with_text : List ℕ → Outcome → Outcome
 with_text text rest = record { text = text ++ rest.text; fault = rest.fault }
 
--- one operation on one of the partitions: what it leaves, and its line
-abbrev pub stepped : List PlainPartition → ℕ → PlainPartition × Reply → List PlainPartition × List ℕ
-stepped partitions queue done = (slice_set partitions queue done.0, reply_line queue done.1)
-
 -- a text in front of what was done
 abbrev pub behind : List ℕ → List PlainPartition × List ℕ → List PlainPartition × List ℕ
 behind text done = (done.0, text ++ done.1)
 
--- one partition and its line in front of what was done
-abbrev pub with_stepped : ℕ → PlainPartition × Reply → List PlainPartition × List ℕ → List PlainPartition × List ℕ
-with_stepped queue stepped done = (stepped.0 ∷ done.0, reply_line queue stepped.1 ++ done.1)
-
--- One operation on each of the partitions, the first of which has this queue: what they leave, and their
--- lines in order.
-abbrev pub stepped_each : ℕ → List PlainPartition → Op → List PlainPartition × List ℕ
-stepped_each queue [] o = ([], [])
-stepped_each queue (p ∷ partitions) o = with_stepped queue (step p o) (stepped_each (suc queue) partitions o)
+-- an operation on the partition of a queue: what it leaves, and its line
+abbrev pub step_on : Op → ℕ → PlainPartition → PlainPartition × List ℕ
+step_on o queue p = ((step p o).0, reply_line queue (step p o).1)
 
 -- the line of a drain, and none where it went astray: then it has no end, and that is never so
 abbrev pub end_line : ℕ → Option DrainEnd → List ℕ
 end_line queue None = []
 end_line queue (Some end) = drain_line queue end
 
--- one of the partitions drained: what that leaves, and its line
-abbrev pub drained : List PlainPartition → ℕ → Progress × Option DrainEnd → List PlainPartition × List ℕ
-drained partitions queue done = (slice_set partitions queue done.0.now, end_line queue done.1)
+-- a drain of the partition of a queue
+abbrev pub drain_on : ℕ → PlainPartition → PlainPartition × List ℕ
+drain_on queue p = ((drain p).0.now, end_line queue (drain p).1)
 
--- one drained partition and its line in front of what was done
-abbrev pub with_drained : ℕ → Progress × Option DrainEnd → List PlainPartition × List ℕ → List PlainPartition × List ℕ
-with_drained queue drained done = (drained.0.now ∷ done.0, end_line queue drained.1 ++ done.1)
+-- one of the partitions done: what that leaves, and its line
+abbrev pub one_done : (ℕ → PlainPartition → PlainPartition × List ℕ) → SimConfig → ℕ → List PlainPartition → List PlainPartition × List ℕ
+one_done one config queue partitions =
+    let done = one queue (slice_index_or partitions queue (empty config.blocks config.limits)) in (slice_set partitions queue done.0, done.1)
 
--- Each of the partitions drained, the first of which has this queue: what that leaves, and their lines in
+-- one partition and its line in front of what was done
+abbrev pub with_done : PlainPartition × List ℕ → List PlainPartition × List ℕ → List PlainPartition × List ℕ
+with_done first done = (first.0 ∷ done.0, first.1 ++ done.1)
+
+-- Each of the partitions done, the first of which has this queue: what that leaves, and their lines in
 -- order.
-abbrev pub drained_each : ℕ → List PlainPartition → List PlainPartition × List ℕ
-drained_each queue [] = ([], [])
-drained_each queue (p ∷ partitions) = with_drained queue (drain p) (drained_each (suc queue) partitions)
+abbrev pub each_done : (ℕ → PlainPartition → PlainPartition × List ℕ) → ℕ → List PlainPartition → List PlainPartition × List ℕ
+each_done one queue [] = ([], [])
+each_done one queue (p ∷ partitions) = with_done (one queue p) (each_done one (suc queue) partitions)
 
 -- What a line does: the partitions after it and its text, or its fault. A line that changes silos is
 -- never read as such here, and would do nothing.
 abbrev pub run_parsed : SimConfig → List PlainPartition → Parsed → Result (List PlainPartition × List ℕ) Fault
 run_parsed config partitions parsed.Skip = Ok (partitions, [])
 run_parsed config partitions (parsed.Fault fault) = Err fault
-run_parsed config partitions (parsed.Command (command.Step queue o)) =
-    Ok (stepped partitions queue (step (slice_index_or partitions queue (empty config.blocks config.limits)) o))
-run_parsed config partitions (parsed.Command (command.Each each)) = Ok (stepped_each 0 partitions (op_of each))
-run_parsed config partitions (parsed.Command command.Drain) = Ok (drained_each 0 partitions)
+run_parsed config partitions (parsed.Command (command.Step queue o)) = Ok (one_done (step_on o) config queue partitions)
+run_parsed config partitions (parsed.Command (command.Each each)) = Ok (each_done (step_on (op_of each)) 0 partitions)
+run_parsed config partitions (parsed.Command command.Drain) = Ok (each_done drain_on 0 partitions)
 run_parsed config partitions (parsed.Command command.Report) = Ok (partitions, report_of partitions)
 run_parsed config partitions (parsed.Command (command.Up silo)) = Ok (partitions, [])
 run_parsed config partitions (parsed.Command (command.Down silo)) = Ok (partitions, [])

@@ -2,15 +2,13 @@
 //!
 //! What has a partition, a command or an event as a value isn't inlined, so that its room is no part of the frames below
 //! which lines are done.
-ghost use Rattle.std.specs.Prelude.{◌≡◌, ◌+◌, ◌^◌, ◌<◌, ◌≤◌, ◌-◌, [], suc, length, map, vec_len, false, Ok, Err, IfOk, IfSome, OnOk, replicate, slice_index_or, if◌then◌else◌};
+ghost use Rattle.std.specs.Prelude.{◌≡◌, ◌+◌, ◌^◌, ◌<◌, ◌≤◌, ◌-◌, [], suc, length, map, vec_len, false, Ok, Err, IfOk, IfSome, OnOk, replicate, if◌then◌else◌};
 ghost use Rattle.std.specs.Io.KnownBytes.{IsAtEnd, Keeps};
 ghost use Rattle.std.specs.List.{AllByRecursion};
 ghost use Rattle.stream_ident.specs.Alphabet.{IsPayload};
-ghost use Rattle.stream_model.specs.Draining.{drain};
 ghost use Rattle.stream_model.specs.Positions.{empty};
-ghost use Rattle.stream_model.specs.Step.{step};
 ghost use Rattle.stream_script.specs.Forms.{op_of};
-ghost use Rattle.stream_script.specs.Simulation.{IsSimConfig, Simulates, SimulatesSome, RunsLines, Finishes, ReadsScript, ReadsSome, simulation, run_script, is_read_fault, is_write_fault, behind, stepped, stepped_each, drained, drained_each, run_line, RunsLine};
+ghost use Rattle.stream_script.specs.Simulation.{IsSimConfig, Simulates, SimulatesSome, RunsLines, Finishes, ReadsScript, ReadsSome, simulation, run_script, is_read_fault, is_write_fault, behind, step_on, drain_on, one_done, each_done, run_line, RunsLine};
 
 use crate::parser::{
     Command, EachOp, Fault, FaultKind, Lines, Mode, Publish, read_line, read_publish,
@@ -316,7 +314,7 @@ impl Simulator {
     ) -> Result<(), AllocError>
         requires { text.old.items ≡ [] }
         ensures config { self.new.config ≡ self.old.config }
-        ensures text { OnOk result ((self.new.partitions.items, text.new.items) ≡ stepped_each 0 self.old.partitions.items (op_of each.now)) }
+        ensures text { OnOk result ((self.new.partitions.items, text.new.items) ≡ each_done (step_on (op_of each.now)) 0 self.old.partitions.items) }
     {
         for queue in 0..self.config.queues {
             self.step(alloc, queue, &each.op(), text)?;
@@ -336,8 +334,7 @@ impl Simulator {
         requires { queue < self.old.config.queues }
         ensures config { self.new.config ≡ self.old.config }
         ensures text { OnOk result ((self.new.partitions.items, text.new.items) ≡
-            behind text.old.items (stepped self.old.partitions.items queue
-            (step (slice_index_or self.old.partitions.items queue (empty self.old.config.blocks self.old.config.limits)) op.now))) }
+            behind text.old.items (one_done (step_on op.now) self.old.config queue self.old.partitions.items)) }
     {
         let partition = &mut self.partitions[queue];
         match partition.advance(alloc, op) {
@@ -358,9 +355,8 @@ impl Simulator {
         requires payloads { AllByRecursion IsPayload (map (λ payload. payload.now) payloads.now) }
         ensures config { self.new.config ≡ self.old.config }
         ensures text { OnOk result ((self.new.partitions.items, text.new.items) ≡
-            behind text.old.items (stepped self.old.partitions.items publish.now.queue
-            (step (slice_index_or self.old.partitions.items publish.now.queue (empty self.old.config.blocks self.old.config.limits))
-            (Op.Publish publish.now.stream (map (λ payload. payload.now) payloads.now))))) }
+            behind text.old.items (one_done (step_on (Op.Publish publish.now.stream (map (λ payload. payload.now) payloads.now)))
+            self.old.config publish.now.queue self.old.partitions.items)) }
     {
         let partition = &mut self.partitions[publish.queue];
         let appended = partition.publish(alloc, &publish.stream, payloads)?;
@@ -372,10 +368,9 @@ impl Simulator {
     fn drain_each(&mut self, alloc: Global, text: &mut Vec<u8>) -> Result<(), AllocError>
         requires { text.old.items ≡ [] }
         ensures config { self.new.config ≡ self.old.config }
-        ensures text { OnOk result ((self.new.partitions.items, text.new.items) ≡ drained_each 0 self.old.partitions.items) }
+        ensures text { OnOk result ((self.new.partitions.items, text.new.items) ≡ each_done drain_on 0 self.old.partitions.items) }
     {
-        let queues = self.config.queues;
-        for queue in 0..queues {
+        for queue in 0..self.config.queues {
             self.drain(alloc, queue, text)?;
         }
         Ok(())
@@ -386,8 +381,7 @@ impl Simulator {
         requires { queue < self.old.config.queues }
         ensures config { self.new.config ≡ self.old.config }
         ensures text { OnOk result ((self.new.partitions.items, text.new.items) ≡
-            behind text.old.items (drained self.old.partitions.items queue
-            (drain (slice_index_or self.old.partitions.items queue (empty self.old.config.blocks self.old.config.limits))))) }
+            behind text.old.items (one_done drain_on self.old.config queue self.old.partitions.items)) }
     {
         let end = self.partitions[queue].drain(alloc)?;
         drain_line(queue, &end, text)

@@ -1,25 +1,16 @@
 //! What stands behind the verbs of pulling agents and workers.
 ghost use Rattle.std.specs.Prelude.{map};
 ghost use Rattle.stream_script.specs.Reading.{Makes};
-ghost use Rattle.stream_script.specs.Forms.{pull_words, pull_fields, deliver_words, retry_words, ack_words, ack_fields, purge_words, purge_fields, move_words, begin_words, begin_one, begin_most, commit_words, commit_fields, deactivate_words, ready_words, ready_first, ready_after, due_words, due_first, due_after};
+ghost use Rattle.stream_script.specs.Forms.{pull_fields, deliver_words, retry_words, ack_fields, purge_fields, move_words, begin_one, begin_most, commit_fields, deactivate_words, ready_first, ready_after, due_first, due_after};
 
 use crate::parser::command::{Command, FaultKind};
 use crate::parser::fields;
 use stream_model::Op;
 
 /// `pull Q GEN MAX`
-pub(crate) fn pull(words: &[&[u8]], queues: usize, command: &mut Command) -> Result<(), FaultKind>
-    ensures { Makes command.new result (pull_words queues (map (λ word. word.now) words.now)) }
-{
-    match words {
-        [queue, generation, max] => pull_fields(queue, generation, max, queues, command),
-        _ => Err(FaultKind::WordCount),
-    }
-}
-
 #[tactic(auto, unfolding(crate::specs::Forms::pull_fields))]
 #[inline(never)]
-fn pull_fields(
+pub(crate) fn pull(
     queue: &[u8],
     generation: &[u8],
     max: &[u8],
@@ -70,18 +61,9 @@ pub(crate) fn retry(words: &[&[u8]], queues: usize, command: &mut Command) -> Re
 }
 
 /// `ack GEN SUB TOKEN`
-pub(crate) fn ack(words: &[&[u8]], queues: usize, command: &mut Command) -> Result<(), FaultKind>
-    ensures { Makes command.new result (ack_words queues (map (λ word. word.now) words.now)) }
-{
-    match words {
-        [generation, sub, token] => ack_fields(generation, sub, token, queues, command),
-        _ => Err(FaultKind::WordCount),
-    }
-}
-
 #[tactic(auto, unfolding(crate::specs::Forms::ack_fields))]
 #[inline(never)]
-fn ack_fields(
+pub(crate) fn ack(
     generation: &[u8],
     sub: &[u8],
     token: &[u8],
@@ -105,18 +87,9 @@ fn ack_fields(
 }
 
 /// `purge Q GEN KEEP`
-pub(crate) fn purge(words: &[&[u8]], queues: usize, command: &mut Command) -> Result<(), FaultKind>
-    ensures { Makes command.new result (purge_words queues (map (λ word. word.now) words.now)) }
-{
-    match words {
-        [queue, generation, keep] => purge_fields(queue, generation, keep, queues, command),
-        _ => Err(FaultKind::WordCount),
-    }
-}
-
 #[tactic(auto, unfolding(crate::specs::Forms::purge_fields))]
 #[inline(never)]
-fn purge_fields(
+pub(crate) fn purge(
     queue: &[u8],
     generation: &[u8],
     keep: &[u8],
@@ -151,20 +124,10 @@ pub(crate) fn move_queue(
     Ok(())
 }
 
-/// `begin Q GRAIN` or `begin Q GRAIN MAX`
-pub(crate) fn begin(words: &[&[u8]], queues: usize, command: &mut Command) -> Result<(), FaultKind>
-    ensures { Makes command.new result (begin_words queues (map (λ word. word.now) words.now)) }
-{
-    match words {
-        [queue, grain] => begin_one(queue, grain, queues, command),
-        [queue, grain, max] => begin_most(queue, grain, max, queues, command),
-        _ => Err(FaultKind::WordCount),
-    }
-}
-
+/// `begin Q GRAIN`
 #[tactic(auto, unfolding(crate::specs::Forms::begin_one))]
 #[inline(never)]
-fn begin_one(
+pub(crate) fn begin_one(
     queue: &[u8],
     grain: &[u8],
     queues: usize,
@@ -178,9 +141,10 @@ fn begin_one(
     Ok(())
 }
 
+/// `begin Q GRAIN MAX`
 #[tactic(auto, unfolding(crate::specs::Forms::begin_most))]
 #[inline(never)]
-fn begin_most(
+pub(crate) fn begin_most(
     queue: &[u8],
     grain: &[u8],
     max: &[u8],
@@ -197,20 +161,9 @@ fn begin_most(
 }
 
 /// `commit Q GRAIN ACTIVATION TURN NOTE`
-pub(crate) fn commit(words: &[&[u8]], queues: usize, command: &mut Command) -> Result<(), FaultKind>
-    ensures { Makes command.new result (commit_words queues (map (λ word. word.now) words.now)) }
-{
-    match words {
-        [queue, grain, activation, turn, note] => {
-            commit_fields(queue, grain, activation, turn, note, queues, command)
-        }
-        _ => Err(FaultKind::WordCount),
-    }
-}
-
 #[tactic(auto, unfolding(crate::specs::Forms::commit_fields))]
 #[inline(never)]
-fn commit_fields(
+pub(crate) fn commit(
     queue: &[u8],
     grain: &[u8],
     activation: &[u8],
@@ -257,20 +210,14 @@ pub(crate) fn deactivate(
     Ok(())
 }
 
-/// `ready Q` or `ready Q GRAIN`
-pub(crate) fn ready(words: &[&[u8]], queues: usize, command: &mut Command) -> Result<(), FaultKind>
-    ensures { Makes command.new result (ready_words queues (map (λ word. word.now) words.now)) }
-{
-    match words {
-        [queue] => ready_first(queue, queues, command),
-        [queue, grain] => ready_after(queue, grain, queues, command),
-        _ => Err(FaultKind::WordCount),
-    }
-}
-
+/// `ready Q`
 #[tactic(auto, unfolding(crate::specs::Forms::ready_first))]
 #[inline(never)]
-fn ready_first(queue: &[u8], queues: usize, command: &mut Command) -> Result<(), FaultKind>
+pub(crate) fn ready_first(
+    queue: &[u8],
+    queues: usize,
+    command: &mut Command,
+) -> Result<(), FaultKind>
     ensures { Makes command.new result (ready_first queues queue.now) }
 {
     let queue = fields::queue(queue, queues)?;
@@ -278,9 +225,10 @@ fn ready_first(queue: &[u8], queues: usize, command: &mut Command) -> Result<(),
     Ok(())
 }
 
+/// `ready Q GRAIN`
 #[tactic(auto, unfolding(crate::specs::Forms::ready_after))]
 #[inline(never)]
-fn ready_after(
+pub(crate) fn ready_after(
     queue: &[u8],
     grain: &[u8],
     queues: usize,
@@ -294,20 +242,10 @@ fn ready_after(
     Ok(())
 }
 
-/// `due Q` or `due Q SUB`
-pub(crate) fn due(words: &[&[u8]], queues: usize, command: &mut Command) -> Result<(), FaultKind>
-    ensures { Makes command.new result (due_words queues (map (λ word. word.now) words.now)) }
-{
-    match words {
-        [queue] => due_first(queue, queues, command),
-        [queue, sub] => due_after(queue, sub, queues, command),
-        _ => Err(FaultKind::WordCount),
-    }
-}
-
+/// `due Q`
 #[tactic(auto, unfolding(crate::specs::Forms::due_first))]
 #[inline(never)]
-fn due_first(queue: &[u8], queues: usize, command: &mut Command) -> Result<(), FaultKind>
+pub(crate) fn due_first(queue: &[u8], queues: usize, command: &mut Command) -> Result<(), FaultKind>
     ensures { Makes command.new result (due_first queues queue.now) }
 {
     let queue = fields::queue(queue, queues)?;
@@ -315,9 +253,10 @@ fn due_first(queue: &[u8], queues: usize, command: &mut Command) -> Result<(), F
     Ok(())
 }
 
+/// `due Q SUB`
 #[tactic(auto, unfolding(crate::specs::Forms::due_after))]
 #[inline(never)]
-fn due_after(
+pub(crate) fn due_after(
     queue: &[u8],
     sub: &[u8],
     queues: usize,

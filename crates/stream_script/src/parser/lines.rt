@@ -120,7 +120,7 @@ fn piece_at<'a>(alloc: Global, bytes: &'a [u8]) -> Result<Option<(Piece<'a>, &'a
 }
 
 /// Whether this byte stands in front.
-fn begins_with(bytes: &[u8], byte: u8) -> bool
+pub(crate) fn begins_with(bytes: &[u8], byte: u8) -> bool
     ensures { result ≡ begins_with byte bytes.now }
 {
     match bytes {

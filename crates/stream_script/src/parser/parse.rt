@@ -7,16 +7,16 @@ ghost use Rattle.std.specs.Prelude.{◌≡◌, ◌≤◌, map, IfOk, Ok, Err};
 ghost use Rattle.std.specs.List.{list_all};
 ghost use Rattle.stream_ident.specs.Alphabet.{is_printable};
 ghost use Rattle.stream_script.specs.declared.parser.command.Command.{Command};
-ghost use Rattle.stream_script.specs.Forms.{queue_of, verb_command, words_command, alone, pub_command, pub_fields, sub_words, sub_latest, sub_from, unsub_words, rule_words, up_words, down_words};
+ghost use Rattle.stream_script.specs.Forms.{queue_of, verb_command, words_command, alone, pub_command, pub_fields, sub_latest, sub_from, unsub_words, rule_words, up_words, down_words};
 ghost use Rattle.stream_script.specs.Grammar.{Reads};
 ghost use Rattle.stream_script.specs.Lexer.{pieces_in};
 ghost use Rattle.stream_script.specs.Pieces.{is_space};
-ghost use Rattle.stream_script.specs.Reading.{Gives, Makes, IsWithin, parsed_as, reading, is_comment, is_skipped, line_command, command_of};
+ghost use Rattle.stream_script.specs.Reading.{Gives, Makes, IsWithin, parsed_as, reading, is_skipped, line_command, command_of};
 
 use crate::parser::command::{
     Command, EachOp, Fault, FaultKind, LineError, Mode, Parsed, Verb, not_here,
 };
-use crate::parser::lines::{Piece, pieces};
+use crate::parser::lines::{Piece, begins_with, pieces};
 use crate::parser::{agent_forms, fields};
 use std::alloc::{AllocError, Global};
 use stream_ident::{Batch, GrainId, Payload, StreamId};
@@ -97,7 +97,7 @@ pub(crate) fn read_line(
 fn is_skipped(bytes: &[u8]) -> bool
     ensures { result ≡ is_skipped bytes.now }
 {
-    are_spaces(bytes) || is_comment(bytes)
+    are_spaces(bytes) || begins_with(bytes, b'#')
 }
 
 /// Whether each byte is a space.
@@ -105,16 +105,6 @@ fn are_spaces(bytes: &[u8]) -> bool
     ensures { result ≡ list_all is_space bytes.now }
 {
     bytes.iter().all(|byte| *byte == b' ')
-}
-
-/// Whether a line is a comment.
-fn is_comment(bytes: &[u8]) -> bool
-    ensures { result ≡ is_comment bytes.now }
-{
-    match bytes {
-        [] => false,
-        [first, ..] => *first == b'#',
-    }
 }
 
 /// Whether each byte is printable.
@@ -200,20 +190,54 @@ fn of_words(
     match verb {
         // Texts stand behind it.
         Verb::Pub => Err(FaultKind::WordCount),
-        Verb::Sub => subscribe(words, queues, command),
+        Verb::Sub => match words {
+            [stream, grain, word] => subscribe_latest(stream, grain, word, queues, command),
+            [stream, grain, word, token] => {
+                subscribe_from(stream, grain, word, token, queues, command)
+            }
+            _ => Err(FaultKind::WordCount),
+        },
         Verb::Unsub => unsubscribe(words, queues, command),
         Verb::Rule => rule(words, command),
-        Verb::Pull => agent_forms::pull(words, queues, command),
+        Verb::Pull => match words {
+            [queue, generation, max] => agent_forms::pull(queue, generation, max, queues, command),
+            _ => Err(FaultKind::WordCount),
+        },
         Verb::Deliver => agent_forms::deliver(words, queues, command),
         Verb::Retry => agent_forms::retry(words, queues, command),
-        Verb::Ack => agent_forms::ack(words, queues, command),
-        Verb::Purge => agent_forms::purge(words, queues, command),
+        Verb::Ack => match words {
+            [generation, sub, token] => agent_forms::ack(generation, sub, token, queues, command),
+            _ => Err(FaultKind::WordCount),
+        },
+        Verb::Purge => match words {
+            [queue, generation, keep] => {
+                agent_forms::purge(queue, generation, keep, queues, command)
+            }
+            _ => Err(FaultKind::WordCount),
+        },
         Verb::Move => agent_forms::move_queue(words, queues, command),
-        Verb::Begin => agent_forms::begin(words, queues, command),
-        Verb::Commit => agent_forms::commit(words, queues, command),
+        Verb::Begin => match words {
+            [queue, grain] => agent_forms::begin_one(queue, grain, queues, command),
+            [queue, grain, max] => agent_forms::begin_most(queue, grain, max, queues, command),
+            _ => Err(FaultKind::WordCount),
+        },
+        Verb::Commit => match words {
+            [queue, grain, activation, turn, note] => {
+                agent_forms::commit(queue, grain, activation, turn, note, queues, command)
+            }
+            _ => Err(FaultKind::WordCount),
+        },
         Verb::Deactivate => agent_forms::deactivate(words, queues, command),
-        Verb::Ready => agent_forms::ready(words, queues, command),
-        Verb::Due => agent_forms::due(words, queues, command),
+        Verb::Ready => match words {
+            [queue] => agent_forms::ready_first(queue, queues, command),
+            [queue, grain] => agent_forms::ready_after(queue, grain, queues, command),
+            _ => Err(FaultKind::WordCount),
+        },
+        Verb::Due => match words {
+            [queue] => agent_forms::due_first(queue, queues, command),
+            [queue, sub] => agent_forms::due_after(queue, sub, queues, command),
+            _ => Err(FaultKind::WordCount),
+        },
         Verb::Report => report(words, command),
         Verb::Quiet => quiet(words, command),
         Verb::Drain => drain(words, command),
@@ -310,18 +334,7 @@ fn publication(stream: StreamId, payloads: Vec<Payload>, queues: usize) -> Comma
     )
 }
 
-/// `sub STREAM GRAIN latest` or `sub STREAM GRAIN from TOKEN`
-fn subscribe(words: &[&[u8]], queues: usize, command: &mut Command) -> Result<(), FaultKind>
-    requires { 1 ≤ queues }
-    ensures { Makes command.new result (sub_words queues (map (λ word. word.now) words.now)) }
-{
-    match words {
-        [stream, grain, word] => subscribe_latest(stream, grain, word, queues, command),
-        [stream, grain, word, token] => subscribe_from(stream, grain, word, token, queues, command),
-        _ => Err(FaultKind::WordCount),
-    }
-}
-
+/// `sub STREAM GRAIN latest`
 #[tactic(auto, unfolding(crate::specs::Forms::sub_latest))]
 #[inline(never)]
 fn subscribe_latest(
@@ -343,6 +356,7 @@ fn subscribe_latest(
     Ok(())
 }
 
+/// `sub STREAM GRAIN from TOKEN`
 #[tactic(auto, unfolding(crate::specs::Forms::sub_from))]
 #[inline(never)]
 fn subscribe_from(

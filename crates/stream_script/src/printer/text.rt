@@ -99,7 +99,11 @@ fn push_reply(reply: &Reply, out: &mut Vec<u8>) -> Result<(), AllocError>
             turn,
             events,
             note,
-        } => push_turn(sub, *activation, *turn, events.as_slice(), *note, out),
+        } => {
+            push_running(sub, *activation, *turn, out)?;
+            push_events(events.as_slice(), out)?;
+            push_count(b" note ", *note, out)
+        }
         _ => push_told(reply, out),
     }
 }
@@ -122,7 +126,8 @@ fn push_outcome(
             note,
         } => {
             push_running(sub, *activation, *turn, out)?;
-            push_read(positions.as_slice(), partition, *note, out)
+            push_events_at(positions.as_slice(), partition, out)?;
+            push_count(b" note ", *note, out)
         }
         _ => push_told(outcome, out),
     }
@@ -181,20 +186,6 @@ fn push_told<E>(reply: &Reply<E>, out: &mut Vec<u8>) -> Result<(), AllocError>
     }
 }
 
-/// Appends what a turn is handed: the events at these positions, and the note.
-fn push_read(
-    positions: &[usize],
-    partition: &Partition,
-    note: u64,
-    out: &mut Vec<u8>,
-) -> Result<(), AllocError>
-    requires { AllByRecursion (λ position. position < length partition.now.log) positions.now }
-    ensures { Writes out.old.items out.new.items result (flat_map event_text (events_at partition.now.log positions.now) ++ codes " note " ++ decimal note) }
-{
-    push_events_at(positions, partition, out)?;
-    push_count(b" note ", note, out)
-}
-
 // Not inlined, since an event that is read takes some 400 bytes.
 #[inline(never)]
 fn push_events_at(
@@ -250,22 +241,6 @@ fn push_handled(
     push_placed(b" ", token, out)
 }
 
-fn push_turn(
-    sub: &SubName,
-    activation: u64,
-    turn: u64,
-    events: &[Event],
-    note: u64,
-    out: &mut Vec<u8>,
-) -> Result<(), AllocError>
-    ensures { Writes out.old.items out.new.items result
-        (codes "turn " ++ decimal turn ++ codes " sub " ++ name_text sub.now ++ codes " activation " ++ decimal activation
-        ++ flat_map event_text events.now ++ codes " note " ++ decimal note) }
-{
-    push_running(sub, activation, turn, out)?;
-    push_handed(events, note, out)
-}
-
 /// Appends which turn runs.
 fn push_running(
     sub: &SubName,
@@ -279,14 +254,6 @@ fn push_running(
     push_count(b"turn ", turn, out)?;
     push_named(b" sub ", sub, out)?;
     push_count(b" activation ", activation, out)
-}
-
-/// Appends what the turn is handed: its events and the note.
-fn push_handed(events: &[Event], note: u64, out: &mut Vec<u8>) -> Result<(), AllocError>
-    ensures { Writes out.old.items out.new.items result (flat_map event_text events.now ++ codes " note " ++ decimal note) }
-{
-    push_events(events, out)?;
-    push_count(b" note ", note, out)
 }
 
 fn push_events(events: &[Event], out: &mut Vec<u8>) -> Result<(), AllocError>

@@ -1,6 +1,6 @@
 use Rattle.stream_script.proofs.Prelude.{◌∙◌, ap, ◌<◌, length, arith, empty}
 use Rattle.stream_script.specs.declared.simulate.SimConfig.{SimConfig}
-use Rattle.stream_script.proofs.DrainLemmas.{drained_more}
+use Rattle.stream_script.proofs.EachLemmas.{next_done}
 use Rattle.stream_script.proofs.simulate.Simulator.drain_each.Goals as goal
 
 pub loop-queue-preserved : goal.loop-queue-preserved
@@ -10,5 +10,5 @@ loop-queue-preserved c =
     let within : c.loop-queue.queue < length now.partitions.items = omega (arith, c.loop-queue-test.true, same_queues, now.one_each, now.partitions.ok.0) in
     record {
       config = c.in_ok-drain.ensures.config ∙ c.loop-queue.invariant.config;
-      so_far = drained_more c.loop-queue.queue c.args.self.now.partitions.items now.partitions.items c.drain.new.self.partitions.items c.loop-queue.text.items c.drain.new.text.items (empty now.config.blocks now.config.limits) within c.loop-queue.invariant.so_far c.in_ok-drain.ensures.text;
+      so_far = next_done _ c.loop-queue.queue c.args.self.now.partitions.items now.partitions.items c.drain.new.self.partitions.items c.loop-queue.text.items c.drain.new.text.items (empty now.config.blocks now.config.limits) within c.loop-queue.invariant.so_far c.in_ok-drain.ensures.text;
     }

@@ -1,11 +1,12 @@
 use Rattle.stream_script.proofs.Prelude.{◌≡◌}
 use Rattle.stream_script.specs.Forms.{op_of}
-use Rattle.stream_script.proofs.SimulatorLemmas.{EachSoFar}
+use Rattle.stream_script.specs.Simulation.{step_on}
+use Rattle.stream_script.proofs.EachLemmas.{SoFar}
 use Rattle.stream_script.proofs.simulate.Simulator.step_each.Given as goal
 
 -- the queues so far
 abbrev pub invariant-loop-queue : goal.invariant-loop-queue
 invariant-loop-queue l = record {
   config : l.self.config ≡ l.fn.self.config;
-  so_far : EachSoFar l.queue l.fn.self.partitions.items l.self.partitions.items l.text.items (op_of l.each);
+  so_far : SoFar (step_on (op_of l.each)) l.queue l.fn.self.partitions.items l.self.partitions.items l.text.items;
 }
