@@ -1,9 +1,7 @@
 -- Printable bytes are ASCII.
-use Rattle.std.proofs.Common.{◌≡◌, ℕ, ◌<◌, true, List, [], ◌∷◌, arith, zero, suc}
-use Rattle.std.specs.List.{list_all}
+use Rattle.script_checker.proofs.Prelude.{◌≡◌, ℕ, ◌<◌, true, List, [], ◌∷◌, arith, zero, suc, leb-true, and_parts, list_all}
 use Rattle.std.specs.Str.{IsAscii}
 use Rattle.stream_ident.specs.Alphabet.{is_printable}
-use Rattle.std.proofs.lemmas.Bool.{leb-true, and_parts}
 
 small : (byte : ℕ) → is_printable byte ≡ true → byte < 128
 small byte e = omega (arith, leb-true byte 126 (and_parts _ _ e).1)

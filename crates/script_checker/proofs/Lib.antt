@@ -3,6 +3,6 @@ mod CountLemmas
 mod PlaceLemmas
 mod QueueLemmas
 mod ScriptLemmas
-mod SummaryLemmas
 mod VerbLemmas
 mod VerbPlaces
+pub mod Prelude

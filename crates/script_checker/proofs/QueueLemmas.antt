@@ -1,11 +1,9 @@
 -- The queues of a summary.
-use Rattle.std.proofs.Common.{◌≡◌, ℕ, Bool, true, false, ◌||◌, cond, List, [], ◌∷◌, ◌++◌, Option, Some, None, is_some, refl, sym, ap, subst, ◌∙◌, inl, inr}
-use Rattle.std.proofs.lemmas.Bool.{cases_Bool}
-use Rattle.stream_ident.proofs.SameValues.{same_stream-equal}
-use Rattle.stream_ident.specs.declared.ident.StreamId.{StreamId}
+use Rattle.script_checker.proofs.Prelude.{◌≡◌, ℕ, Bool, true, false, ◌||◌, cond, List, [], ◌∷◌, ◌++◌, Option, Some, None, is_some, refl, sym, ap, ◌∙◌, inl, inr, cases_Bool, StreamId, Command}
+use Rattle.stream_ident.proofs.SameValues.{same_stream-equal, same_stream-refl}
+use Rattle.stream_ident.proofs.WordLemmas.{or_else-none}
 use Rattle.stream_ident.specs.Name.{same_stream}
-use Rattle.stream_ident.specs.Words.{value_at, or_else}
-use Rattle.stream_script.specs.declared.parser.command.Command.{Command}
+use Rattle.stream_ident.specs.Words.{value_at, or_else, with_new}
 use Rattle.script_checker.specs.PlainSummary.{PlainSummary}
 use Rattle.script_checker.specs.Summaries.{named, noted, own_queue, queue_in, stream_in}
 use Rattle.script_checker.specs.SummaryLaws.{is_named, is_named_in, noted_all}
@@ -24,35 +22,31 @@ or_else-some : {A : Type 0} (found other : Option A) → is_some found ≡ true 
 or_else-some None other e = absurd cc
 or_else-some (Some x) other e = refl
 
-or_else-none : {A : Type 0} (found : Option A) → or_else found None ≡ found
-or_else-none None = refl
-or_else-none (Some x) = refl
-
--- the queue of a stream once another one is named
-queue_in-named : (summary : PlainSummary) (stream other : StreamId)
-    → queue_in (named summary (Some other)) stream ≡ or_else (queue_in summary stream) (cond (same_stream stream other) (Some (own_queue stream summary.queues)) None)
-queue_in-named summary stream other =
-    elim (cases_Bool (is_some (value_at same_stream other summary.streams))) [
-      | inl h ↦ rw h (there h)
-      | inr h ↦ rw h (value_at-last stream summary.streams other (own_queue other summary.queues) ∙ ap (or_else (queue_in summary stream)) (own (same_stream stream other) refl))
+-- a stream that is named is found where it is, or else at the end
+itself : (entries : List (StreamId × ℕ)) (stream : StreamId) (queue : ℕ) → value_at same_stream stream (with_new same_stream entries (stream, queue)) ≡ or_else (value_at same_stream stream entries) (Some queue)
+itself entries stream queue =
+    elim (cases_Bool (is_some (value_at same_stream stream entries))) [
+      | inl there ↦ rw there (sym (or_else-some (value_at same_stream stream entries) (Some queue) there))
+      | inr gone ↦ rw gone (value_at-last stream entries stream queue ∙ rw (same_stream-refl stream) refl)
     ]
-  where
-    own : (b : Bool) → same_stream stream other ≡ b → cond b (Some (own_queue other summary.queues)) None ≡ cond b (Some (own_queue stream summary.queues)) None
-    own true e = ap (λ s. Some (own_queue s summary.queues)) (sym (same_stream-equal stream other e))
-    own false e = refl
 
-    there : is_some (value_at same_stream other summary.streams) ≡ true → queue_in summary stream ≡ or_else (queue_in summary stream) (cond (same_stream stream other) (Some (own_queue stream summary.queues)) None)
-    there h =
-        elim (cases_Bool (same_stream stream other)) [
-          | inl e ↦ sym (or_else-some (queue_in summary stream) _ (subst (λ s. is_some (value_at same_stream s summary.streams) ≡ true) (sym (same_stream-equal stream other e)) h))
-          | inr e ↦ rw e (sym (or_else-none (queue_in summary stream)))
-        ]
+-- and so is each other one as before
+other-named : (entries : List (StreamId × ℕ)) (stream other : StreamId) (queue : ℕ) → same_stream stream other ≡ false → value_at same_stream stream (with_new same_stream entries (other, queue)) ≡ value_at same_stream stream entries
+other-named entries stream other queue apart =
+    elim (cases_Bool (is_some (value_at same_stream other entries))) [
+      | inl there ↦ rw there refl
+      | inr gone ↦ rw gone (value_at-last stream entries other queue ∙ rw apart (or_else-none (value_at same_stream stream entries)))
+    ]
 
--- the queue of a stream after a line
-queue_in-noted : (summary : PlainSummary) (stream : StreamId) (found : Option StreamId)
+-- the queue of a stream once one is named
+queue_in-named : (summary : PlainSummary) (stream : StreamId) (found : Option StreamId)
     → queue_in (named summary found) stream ≡ or_else (queue_in summary stream) (cond (is_named stream found) (Some (own_queue stream summary.queues)) None)
-queue_in-noted summary stream None = sym (or_else-none (queue_in summary stream))
-queue_in-noted summary stream (Some other) = queue_in-named summary stream other
+queue_in-named summary stream None = sym (or_else-none (queue_in summary stream))
+queue_in-named summary stream (Some other) =
+    elim (cases_Bool (same_stream stream other)) [
+      | inl same ↦ rw (same, ← same_stream-equal stream other same) (itself summary.streams stream (own_queue stream summary.queues))
+      | inr apart ↦ rw apart (other-named summary.streams stream other (own_queue other summary.queues) apart ∙ sym (or_else-none (queue_in summary stream)))
+    ]
 
 queues-named : (summary : PlainSummary) (stream : Option StreamId) → (named summary stream).queues ≡ summary.queues
 queues-named summary None = refl
@@ -74,5 +68,5 @@ queues_all (command ∷ commands) summary stream =
     let queue = own_queue stream summary.queues in
     let same = ap (λ queues. cond named_then (Some (own_queue stream queues)) None) (queues-named summary (stream_in command)) in
     queues_all commands (noted summary command) stream ∙ ap (or_else (queue_in (noted summary command) stream)) same
-    ∙ ap (λ found. or_else found (cond named_then (Some queue) None)) (queue_in-noted summary stream (stream_in command))
+    ∙ ap (λ found. or_else found (cond named_then (Some queue) None)) (queue_in-named summary stream (stream_in command))
     ∙ or_else-twice (queue_in summary stream) queue named_now named_then

@@ -1,11 +1,9 @@
 -- The words of commands as they are written.
-use Rattle.std.proofs.Common.{◌≡◌, ℕ, List, ◌∷◌, Some, None, inl, inr, subst}
+use Rattle.script_checker.proofs.Prelude.{◌≡◌, ℕ, List, ◌∷◌, Some, None, inl, inr, subst, Command, Mode}
 use Rattle.stream_model.specs.declared.op.Op.{Op}
 use Rattle.stream_model.specs.declared.op.Op.TheVariants as op
-use Rattle.stream_script.specs.declared.parser.command.Command.{Command}
 use Rattle.stream_script.specs.declared.parser.command.Command.TheVariants.{Step, Each, Drain, Report, Up, Down}
 use Rattle.stream_script.specs.declared.parser.command.EachOp.TheVariants as each
-use Rattle.stream_script.specs.declared.parser.command.Mode.{Mode}
 use Rattle.stream_script.specs.Grammar.{IsSpelled, IsWritten, Reads}
 use Rattle.stream_script.specs.Pieces.{Piece, Word, IsLineOf}
 use Rattle.script_checker.specs.Checks.{BeginsWith}

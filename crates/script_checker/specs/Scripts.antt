@@ -6,12 +6,19 @@ use Rattle.stream_script.specs.declared.parser.command.Mode.{Mode}
 use Rattle.stream_script.specs.declared.parser.command.Parsed.{Parsed}
 use Rattle.stream_script.specs.declared.parser.command.Parsed.TheVariants as parsed
 use Rattle.stream_script.specs.Reading.{reading}
+use Rattle.script_checker.specs.declared.line.Checked.{Checked}
+use Rattle.script_checker.specs.declared.line.Checked.TheVariants as checked
 use Rattle.script_checker.specs.declared.line.LineFault.{LineFault}
 use Rattle.script_checker.specs.declared.script.Findings.{Findings}
 use Rattle.script_checker.specs.Checks.{IsPlacedFault}
 use Rattle.script_checker.specs.FaultTexts.{fault_text}
 use Rattle.script_checker.specs.PlainSummary.{PlainSummary}
 use Rattle.script_checker.specs.Summaries.{empty, noted, summary_text}
+
+-- the fault of a line with its place, where it is one
+abbrev pub placed_in : Checked → List LineFault
+placed_in (checked.Fault fault) = fault ∷ []
+placed_in _ = []
 
 -- the fault of what a line reads as, where it is one
 abbrev pub fault_in : Parsed → List Fault

@@ -1,8 +1,8 @@
 //! The pieces of a line, by where they stand in it.
-ghost use Rattle.std.specs.Prelude.{◌≡◌, ◌≢◌, ◌<◌, ◌≤◌, not, ℕ, length, position, slice_index, MatchOption, IfSome, false};
-ghost use Rattle.std.specs.List.{list_all, position_or_len};
+ghost use Rattle.std.specs.Prelude.{◌≡◌, ◌≢◌, ◌<◌, ◌≤◌, length, slice_index, MatchOption, false};
+ghost use Rattle.std.specs.List.{list_all};
 ghost use Rattle.stream_script.specs.Pieces.{is_space};
-ghost use Rattle.script_checker.specs.Places.{AreSpaces, BeginsAt, EndsAt, IsNextFrom, IsWhole};
+ghost use Rattle.script_checker.specs.Places.{AreSpaces, EndsAt, IsNextFrom, IsWhole};
 
 /// A piece of a line.
 #[derive(Clone, Copy)]
@@ -36,94 +36,67 @@ pub(crate) fn piece_from(bytes: &[u8], from: usize) -> Option<Piece>
     ensures { MatchOption result (AreSpaces bytes.now from (length bytes.now)) (IsNextFrom bytes.now from) }
 {
     let start = piece_start(bytes, from);
-    match &bytes[start..] {
-        [] => None,
-        [b'"', ..] => Some(text_at(bytes, start)),
-        _ => Some(word_at(bytes, start)),
+    if start == bytes.len() {
+        return None;
     }
+    Some(piece_at(bytes, start))
 }
 
 /// The place of the first byte at this place or behind it that isn't a space, or the end of the line.
 fn piece_start(bytes: &[u8], from: usize) -> usize
-    requires within { from ≤ length bytes.now }
-    requires edge { 0 < from → EndsAt bytes.now from }
+    requires { from ≤ length bytes.now }
     ensures behind { from ≤ result }
     ensures within { result ≤ length bytes.now }
     ensures spaces { AreSpaces bytes.now from result }
     ensures first { result < length bytes.now → slice_index bytes.now result ≢ 32 }
-    ensures begins { result < length bytes.now → BeginsAt bytes.now result }
 {
-    from + spaces_len(&bytes[from..])
-}
-
-/// The word that begins here.
-fn word_at(bytes: &[u8], start: usize) -> Piece
-    requires { start < length bytes.now }
-    ensures start { result.start ≡ start }
-    ensures some { start < result.end }
-    ensures within { result.end ≤ length bytes.now }
-    ensures ends { EndsAt bytes.now result.end }
-{
-    let rest = &bytes[start + 1..];
-    let len = word_len(rest);
-    Piece {
-        start,
-        end: start + 1 + len,
-        is_text: false,
-        is_right: !rest[..len].contains(&b'"'),
+    let mut start = from;
+    while start < bytes.len() && bytes[start] == b' ' {
+        start += 1;
     }
+    start
 }
 
-/// The text whose opening quote stands here. What stands right behind its closing quote is part of it.
-fn text_at(bytes: &[u8], start: usize) -> Piece
+/// The piece that begins here. What stands right behind a text's closing quote is part of it.
+fn piece_at(bytes: &[u8], start: usize) -> Piece
     requires { start < length bytes.now }
     ensures start { result.start ≡ start }
     ensures some { start < result.end }
     ensures within { result.end ≤ length bytes.now }
     ensures ends { EndsAt bytes.now result.end }
 {
-    let text = &bytes[start + 1..];
-    let (len, is_right) = text_len(text);
-    let behind = word_len(&text[len..]);
+    if bytes[start] != b'"' {
+        let end = piece_end(bytes, start + 1);
+        return Piece {
+            start,
+            end,
+            is_text: false,
+            is_right: !bytes[start..end].contains(&b'"'),
+        };
+    }
+    let (len, is_right) = text_len(&bytes[start + 1..]);
+    let closed = start + 1 + len;
+    let end = piece_end(bytes, closed);
     Piece {
         start,
-        end: start + 1 + len + behind,
+        end,
         is_text: true,
-        is_right: is_right && behind == 0,
+        is_right: is_right && end == closed,
     }
 }
 
-/// How many spaces stand in front.
-fn spaces_len(bytes: &[u8]) -> usize
-    ensures within { result ≤ length bytes.now }
-    ensures spaces { (k : ℕ) → k < result → slice_index bytes.now k ≡ 32 }
-    ensures stops { result < length bytes.now → slice_index bytes.now result ≢ 32 }
-{
-    spaces_end(bytes).unwrap_or(bytes.len())
-}
-
-/// The place of the first byte that isn't a space.
-fn spaces_end(bytes: &[u8]) -> Option<usize>
-    ensures exact { result ≡ position (λ byte. not (is_space byte)) bytes.now }
-    ensures within { IfSome result (λ at. at < length bytes.now) }
-{
-    bytes.iter().position(|byte| *byte != b' ')
-}
-
-/// How many bytes stand in front of the first space.
-fn word_len(bytes: &[u8]) -> usize
+/// The place of the first space at this place or behind it, or the end of the line.
+fn piece_end(bytes: &[u8], from: usize) -> usize
+    requires { from ≤ length bytes.now }
+    ensures behind { from ≤ result }
     ensures within { result ≤ length bytes.now }
     ensures ends { EndsAt bytes.now result }
 {
-    word_end(bytes).unwrap_or(bytes.len())
-}
-
-/// The place of the first space.
-fn word_end(bytes: &[u8]) -> Option<usize>
-    ensures exact { result ≡ position is_space bytes.now }
-    ensures within { IfSome result (λ at. at < length bytes.now) }
-{
-    bytes.iter().position(|byte| *byte == b' ')
+    let mut end = from;
+    while end < bytes.len() && bytes[end] != b' ' {
+        end += 1;
+    }
+    end
 }
 
 /// How many bytes a text has, its closing quote counted, and whether it has one and its escapes are right.

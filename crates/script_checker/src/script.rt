@@ -3,7 +3,8 @@ ghost use Rattle.std.specs.Prelude.{◌≡◌, ◌≤◌, ◌++◌, length, IfOk
 ghost use Rattle.std.specs.String.{string_bytes};
 ghost use Rattle.stream_script.specs.declared.parser.limits.TheConstants.{MOST_SCRIPT_BYTES};
 ghost use Rattle.stream_script.specs.Lines.{lines_of};
-ghost use Rattle.script_checker.specs.Scripts.{HasFound, fault_line, fault_lines, findings_text};
+ghost use Rattle.script_checker.specs.Checks.{parsed_of};
+ghost use Rattle.script_checker.specs.Scripts.{HasFound, fault_line, fault_lines, findings_text, noted_in, placed_in};
 
 use crate::line::{Checked, LineFault, check_line};
 use crate::summary::Summary;
@@ -34,6 +35,21 @@ impl Findings<'_> {
         let mut text = String::new(alloc);
         push_faults(&self.faults, &mut text)?;
         Ok(text)
+    }
+}
+
+impl<'a> Findings<'a> {
+    /// Adds what a line is.
+    fn add(&mut self, checked: Checked<'a>) -> Result<(), AllocError>
+        ensures faults { OnOk result (self.new.faults.items ≡ self.old.faults.items ++ placed_in checked.entry) }
+        ensures summary { OnOk result (self.new.summary ≡ noted_in self.old.summary (parsed_of checked.entry)) }
+    {
+        match checked {
+            Checked::Skip => {}
+            Checked::Command(command) => self.summary.note(&command)?,
+            Checked::Fault(fault) => self.faults.push(fault)?,
+        }
+        Ok(())
     }
 }
 
@@ -69,17 +85,15 @@ pub fn check_script<'a>(
     requires short { length script.now ≤ MOST_SCRIPT_BYTES }
     ensures { IfOk result (HasFound queues mode (lines_of script.now)) }
 {
-    let mut faults = Vec::new(alloc);
-    let mut summary = Summary::new(alloc, queues);
+    let mut findings = Findings {
+        faults: Vec::new(alloc),
+        summary: Summary::new(alloc, queues),
+    };
     let mut lines = Lines::of(script);
     let mut number = 0;
     while let Some(line) = lines.next_line() {
         number += 1;
-        match check_line(alloc, line, number, queues, mode)? {
-            Checked::Skip => {}
-            Checked::Command(command) => summary.note(&command)?,
-            Checked::Fault(fault) => faults.push(fault)?,
-        }
+        findings.add(check_line(alloc, line, number, queues, mode)?)?;
     }
-    Ok(Findings { faults, summary })
+    Ok(findings)
 }

@@ -1,4 +1,4 @@
-use Rattle.std.proofs.Common.{◌<◌, ◌≤◌, ◌-◌, length}
+use Rattle.script_checker.proofs.Prelude.{◌<◌, ◌≤◌, ◌-◌, length}
 use Rattle.script_checker.specs.Places.{EndsAt}
 use Rattle.script_checker.proofs.finding.bad_text.Given as goal
 

@@ -1,4 +1,4 @@
-use Rattle.std.proofs.Common.{◌≤◌, ◌-◌, length}
+use Rattle.script_checker.proofs.Prelude.{◌≤◌, ◌-◌, length}
 use Rattle.script_checker.specs.Places.{IsWhole}
 use Rattle.script_checker.proofs.finding.misfit.Given as goal
 

@@ -1,4 +1,4 @@
-use Rattle.std.proofs.Common.{Ok, ap, sym, ◌∙◌}
+use Rattle.script_checker.proofs.Prelude.{Ok, ap, sym, ◌∙◌}
 use Rattle.script_checker.proofs.VerbLemmas.{begins_with}
 use Rattle.script_checker.proofs.PlaceLemmas.{fault_not_spaces}
 use Rattle.script_checker.proofs.line.check_line.Goals as goal

@@ -1,14 +1,8 @@
-use Rattle.script_checker.proofs.PlaceLemmas.{whole_at}
+use Rattle.script_checker.proofs.PlaceLemmas.{next_at}
 use Rattle.script_checker.proofs.piece.piece_from.Goals as goal
 
-pub returns-in-34 : goal.returns-in-34
-returns-in-34 c =
+pub returns : goal.returns
+returns c =
     let start = c.piece_start-start.ensures in
-    let text = c.text_at.ensures in
-    whole_at c.args.bytes.now c.args.from c.piece_start-start.result c.text_at.result.start c.text_at.result.end text.start start.behind start.spaces text.some text.within start.first start.begins text.ends
-
-pub returns-in_default : goal.returns-in_default
-returns-in_default c =
-    let start = c.piece_start-start.ensures in
-    let word = c.word_at.ensures in
-    whole_at c.args.bytes.now c.args.from c.piece_start-start.result c.word_at.result.start c.word_at.result.end word.start start.behind start.spaces word.some word.within start.first start.begins word.ends
+    let piece = c.piece_at.ensures in
+    next_at c.args.bytes.now c.args.from c.piece_start-start.result c.piece_at.result c.requires.edge start.behind start.spaces start.first piece.start piece.some piece.within piece.ends

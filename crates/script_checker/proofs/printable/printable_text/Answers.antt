@@ -1,4 +1,4 @@
-use Rattle.std.proofs.Common.{sym, ◌∙◌}
+use Rattle.script_checker.proofs.Prelude.{sym, ◌∙◌}
 use Rattle.std.proofs.lemmas.Str.{IsUtf8-from_ascii}
 use Rattle.script_checker.proofs.AsciiLemmas.{IsAscii-printable}
 use Rattle.script_checker.proofs.printable.printable_text.Goals as goal

@@ -1,5 +1,4 @@
-use Rattle.std.proofs.Common.{◌≡◌, ◌++◌, take}
-use Rattle.std.specs.String.{string_bytes}
+use Rattle.script_checker.proofs.Prelude.{◌≡◌, ◌++◌, take, string_bytes}
 use Rattle.script_checker.specs.Scripts.{fault_lines}
 use Rattle.script_checker.proofs.script.push_faults.Given as goal
 

@@ -1,5 +1,4 @@
-use Rattle.std.proofs.Common.{◌≡◌, ◌++◌, take}
-use Rattle.std.specs.String.{string_bytes}
+use Rattle.script_checker.proofs.Prelude.{◌≡◌, ◌++◌, take, string_bytes}
 use Rattle.script_checker.specs.Summaries.{stream_lines}
 use Rattle.script_checker.proofs.summary.push_streams.Given as goal
 
