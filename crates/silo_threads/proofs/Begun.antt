@@ -1,5 +1,5 @@
 -- What the given passes have to do with the traces at the end.
-use Rattle.silo_threads.proofs.Prelude.{after, replied, told_of, owns-append, owns-claimed, NeverProduces, QueuePass, CallsAlone, IsOtherIn, OwnsNone, ◌≡◌, ◌⊎◌, ℕ, zero, suc, inl, inr, Bool, false, List, [], ◌∷◌, ◌++◌, Contains, Option, Some, None, Result, Ok, Err, refl, sym, ap, subst, ◌∙◌, append_assoc, arith, append-nil, Contains-append_cases, AllByRecursion, AllZip, slice_get, All-push, All-weaken, Reply, Op, PlainPartition, foreign-append, legal_last, replay_snoc, HasOnlySeen, joined_pass, numbers_of, HasSome, Foreign, IsLegal, Own, entry, replay, Entry, Refusal}
+use Rattle.silo_threads.proofs.Prelude.{rules, after, replied, told_of, on-refl, GoesOn, owns-append, owns-claimed, NeverProduces, QueuePass, IsOtherIn, OwnsNone, ◌≡◌, ◌⊎◌, ℕ, zero, suc, inl, inr, Bool, false, List, [], ◌∷◌, ◌++◌, Contains, Option, Some, None, Result, Ok, Err, refl, sym, ap, subst, ◌∙◌, append_assoc, arith, Contains-append_cases, AllZip, slice_get, All-weaken, Reply, Op, PlainPartition, legal_last, replay_snoc, joined_pass, numbers_of, HasSome, IsLegal, Own, entry, replay, Entry, Refusal}
 use Rattle.std.proofs.lemmas.Bool.{true≢false}
 use Rattle.stream_laws.specs.Laws.{QuietIsDone}
 use Rattle.stream_model.specs.declared.op.Op.TheVariants as op
@@ -7,51 +7,30 @@ use Rattle.stream_model.specs.declared.reply.Reply.TheVariants as reply
 use Rattle.stream_model.specs.Looks.{quiet}
 use Rattle.turnstile.specs.declared.turnstile.Refusal.TheVariants.{HistoryFull}
 use Rattle.stream_model.specs.Producers.{is_producer}
-use Rattle.silo_loops.proofs.Taking.{alone-append, alone-foreign}
+use Rattle.silo_loops.proofs.Going.{taken-goes}
+use Rattle.silo_loops.proofs.Taking.{alone-append, alone-fewer, alone-foreign}
 use Rattle.silo_threads.specs.Calls.{joined_passes}
 use Rattle.silo_threads.specs.declared.ending.asking.Quiet.{Quiet}
 use Rattle.silo_threads.specs.Asking.{Asks, IsQuiet}
 use Rattle.silo_threads.specs.Closing.{AreTraces, IsTraceOf}
+use Rattle.silo_threads.specs.Draining.{ProducesNone}
 use Rattle.silo_threads.specs.Finishing.{CallersAloneProduce, CameTo, HasBegun, HasSeenFront, HaveBegun, IsDone}
 use Rattle.silo_threads.specs.Gathering.{Gathers, IsFirstOf, gathered}
+use Rattle.silo_threads.proofs.GoneOn.{looked-none, none-refl}
+use Rattle.silo_threads.proofs.Making.{goes-called, owns-fewer}
 use Rattle.silo_threads.proofs.Looking.{look-each, look-keeps, look-replies}
 use Rattle.silo_threads.proofs.Rows.{all-at, zip-at, zip-trans}
 
--- an entry of others, or a look for quiet by the pass itself
-abbrev IsLookOr : QueuePass → Entry Op Reply → Type 0
-IsLookOr p e = (¬ Contains (numbers_of p) e.number) ⊎ ((e.number ≡ p.number) × (e.op ≡ op.Quiet))
+-- the pass later, which has asked at most whether its queue is quiet
+abbrev HasLooked : QueuePass → QueuePass → Type 0
+HasLooked p q = GoesOn p q × ProducesNone p q
 
--- the pass later: it has seen calls of others and looks of its own
-record OnlyLooks (p q : QueuePass) : Type 0 where
-  only : HasOnlySeen p q
-  more : List (Entry Op Reply)
-  seen : q.seen ≡ p.seen ++ more
-  looks : AllByRecursion (λ e. IsLookOr p e) more
+looked : (result : Result Reply Refusal) (p q : QueuePass) → Asks result p q → HasLooked p q
+looked result p q asks = (goes-called replied after p op.Quiet result q asks.calls, looked-none p q result asks)
 
-others-look : (p : QueuePass) (es : List (Entry Op Reply)) → Foreign (numbers_of p) es → AllByRecursion (λ e. IsLookOr p e) es
-others-look p [] foreign = tt
-others-look p (e ∷ es) foreign = (inl foreign.0, others-look p es foreign.1)
-
-asks-looks : (result : Result Reply Refusal) (p q : QueuePass) → Asks result p q → OnlyLooks p q
-asks-looks (Ok r) p q asks =
-    let called = asks.calls.call in
-    let e = entry p.number op.Quiet r in
-    record {
-      only = asks.calls.only;
-      more = called.0 ++ e ∷ [];
-      seen = called.1 ∙ append_assoc p.seen called.0 (e ∷ []);
-      looks = All-push (λ x. IsLookOr p x) called.0 e (others-look p called.0 called.2) (inr (refl, refl));
-    }
-asks-looks (Err refusal) p q asks =
-    let found = asks.calls.call in
-    record { only = asks.calls.only; more = found.0; seen = found.1; looks = others-look p found.0 found.2 }
-
-still-looks : (p : QueuePass) → OnlyLooks p p
-still-looks p = record { only = refl; more = []; seen = sym (append-nil p.seen); looks = tt }
-
-came-looks : (asked : Option Quiet) (ps qs : List QueuePass) → CameTo asked ps qs → AllZip OnlyLooks ps qs
-came-looks None ps qs came = look-each OnlyLooks still-looks asks-looks ps (Err HistoryFull) qs came
-came-looks (Some answer) ps qs came = look-each OnlyLooks still-looks asks-looks ps (Ok answer) qs came
+came-looks : (asked : Option Quiet) (ps qs : List QueuePass) → CameTo asked ps qs → AllZip HasLooked ps qs
+came-looks None ps qs came = look-each HasLooked (λ p. (on-refl p, none-refl p)) looked ps (Err HistoryFull) qs came
+came-looks (Some answer) ps qs came = look-each HasLooked (λ p. (on-refl p, none-refl p)) looked ps (Ok answer) qs came
 
 -- the history is what the pass has seen, and each entry has a number of the pass
 abbrev IsAllOf : QueuePass → List (Entry Op Reply) → Type 0
@@ -59,60 +38,28 @@ IsAllOf q history = (history ≡ q.seen) × Own (numbers_of q) history
 
 traces-all : (ps : List QueuePass) (histories : List (List (Entry Op Reply))) (partitions : List PlainPartition) → AreTraces ps histories partitions → AllZip IsAllOf ps histories
 traces-all [] [] [] traces = tt
-traces-all [] [] (t ∷ ts) traces = absurd traces
-traces-all [] (h ∷ hs) ts traces = absurd traces
-traces-all (p ∷ ps) [] ts traces = absurd traces
-traces-all (p ∷ ps) (h ∷ hs) [] traces = absurd traces
 traces-all (p ∷ ps) (h ∷ hs) (t ∷ ts) traces = ((traces.0.whole, traces.0.own), traces-all ps hs ts traces.1)
+traces-all _ _ _ traces = absurd traces
 
 -- a pass after which only looks were added, and the history that it then had seen
 abbrev EndsAs : QueuePass → List (Entry Op Reply) → Type 0
-EndsAs p history = (q : QueuePass) × OnlyLooks p q × IsAllOf q history
+EndsAs p history = (q : QueuePass) × HasLooked p q × IsAllOf q history
 
 ends-as : (asked : Option Quiet) (ps last : List QueuePass) (histories : List (List (Entry Op Reply))) (partitions : List PlainPartition) → CameTo asked ps last → AreTraces last histories partitions → AllZip EndsAs ps histories
 ends-as asked ps last histories partitions came traces =
-    zip-trans OnlyLooks IsAllOf EndsAs (λ p q h looks all. (q, looks, all)) ps last histories (came-looks asked ps last came) (traces-all last histories partitions traces)
-
--- a pass that was taken in has no number of these looks
-looks-foreign : (c p : QueuePass) (es : List (Entry Op Reply)) → IsOtherIn c p → AllByRecursion (λ e. IsLookOr p e) es → Foreign (numbers_of c) es
-looks-foreign c p [] taken all = tt
-looks-foreign c p (e ∷ es) taken all = (
-  elim all.0 as (λ w. ¬ Contains (numbers_of c) e.number) [
-    | inl foreign ↦ λ here. foreign (taken.part.numbers e.number here)
-    | inr own ↦ λ here. taken.other (subst (λ k. Contains (numbers_of c) k) own.0 here)
-  ],
-  looks-foreign c p es taken all.1,
-)
+    zip-trans HasLooked IsAllOf EndsAs (λ p q h looks all. (q, looks, all)) ps last histories (came-looks asked ps last came) (traces-all last histories partitions traces)
 
 begun-place : (c p : QueuePass) (history : List (Entry Op Reply)) → IsOtherIn c p → EndsAs p history → HasBegun c history
 begun-place c p history taken ends =
-    let claims = taken.part.claims in
-    let looks = ends.1 in
-    record {
-      rest = claims.rest ++ looks.more;
-      is =
-          ends.2.0 ∙ looks.seen ∙ ap (λ (es : List (Entry Op Reply)). es ++ looks.more) claims.is ∙ append_assoc c.seen claims.rest looks.more;
-      foreign = foreign-append (numbers_of c) claims.rest looks.more claims.foreign (looks-foreign c p looks.more taken looks.looks);
-    }
-
--- the looks of a pass are its calls alone
-looks-alone : (l p : QueuePass) (es : List (Entry Op Reply)) → IsFirstOf l p → AllByRecursion (λ e. IsLookOr p e) es → CallsAlone l es
-looks-alone l p [] first all = tt
-looks-alone l p (e ∷ es) first all = (
-  elim all.0 as (λ w. Contains (numbers_of l) e.number → e.number ≡ l.number) [
-    | inl foreign ↦ λ here. absurd (foreign (first.part.numbers e.number here))
-    | inr own ↦ λ here. own.0 ∙ first.number
-  ],
-  looks-alone l p es first all.1,
-)
+    subst (λ (es : List (Entry Op Reply)). HasBegun c es) (sym ends.2.0) (taken-goes c p ends.0 taken ends.1.0).part.claims
 
 line-front : (l p : QueuePass) (history : List (Entry Op Reply)) → IsFirstOf l p → EndsAs p history → HasSeenFront l history
 line-front l p history first ends =
     let claims = first.part.claims in
-    let looks = ends.1 in (
-      claims.rest ++ looks.more,
-      ends.2.0 ∙ looks.seen ∙ ap (λ (es : List (Entry Op Reply)). es ++ looks.more) claims.is ∙ append_assoc l.seen claims.rest looks.more,
-      alone-append l claims.rest looks.more (alone-foreign l claims.rest claims.foreign) (looks-alone l p looks.more first looks.looks),
+    let on = ends.1.0 in (
+      claims.rest ++ on.more,
+      ends.2.0 ∙ on.seen ∙ ap (λ (es : List (Entry Op Reply)). es ++ on.more) claims.is ∙ append_assoc l.seen claims.rest on.more,
+      alone-append l claims.rest on.more (alone-foreign l claims.rest claims.foreign) (alone-fewer l p on.more first.part.numbers first.number on.alone),
     )
 
 pub have-begun : (ls : List QueuePass) (cs : List (List QueuePass)) (ps last : List QueuePass) (asked : Option Quiet) (histories : List (List (Entry Op Reply))) (partitions : List PlainPartition) → Gathers ls cs ps → CameTo asked ps last
@@ -171,22 +118,12 @@ none-at test numbers [] e none here own = absurd (omega (arith, here.1))
 none-at test numbers (x ∷ es) e none (zero, less, same) own = subst (λ (w : Entry Op Reply). Contains numbers w.number → test w.op ≡ false) same none.0 own
 none-at test numbers (x ∷ es) e none (suc k, less, same) own = none-at test numbers es e none.1 (k, omega arith, same) own
 
--- looks are no producer's calls
-looks-none : (l p : QueuePass) (es : List (Entry Op Reply)) → IsFirstOf l p → AllByRecursion (λ e. IsLookOr p e) es → OwnsNone is_producer (numbers_of l) es
-looks-none l p [] first all = tt
-looks-none l p (e ∷ es) first all = (
-  elim all.0 as (λ w. Contains (numbers_of l) e.number → is_producer e.op ≡ false) [
-    | inl foreign ↦ λ here. absurd (foreign (first.part.numbers e.number here))
-    | inr own ↦ λ here. ap (λ o. is_producer o) own.1
-  ],
-  looks-none l p es first all.1,
-)
-
 line-none : (l p : QueuePass) (history : List (Entry Op Reply)) → NeverProduces l → IsFirstOf l p → EndsAs p history → OwnsNone is_producer (numbers_of l) history
 line-none l p history never first ends =
-    let looks = ends.1 in
-    subst (λ (es : List (Entry Op Reply)). OwnsNone is_producer (numbers_of l) es) (sym (ends.2.0 ∙ looks.seen))
-    (owns-append is_producer (numbers_of l) p.seen looks.more (owns-claimed is_producer (numbers_of l) l.seen p.seen first.part.claims never) (looks-none l p looks.more first looks.looks))
+    let none = ends.1.1 in
+    subst (λ (es : List (Entry Op Reply)). OwnsNone is_producer (numbers_of l) es) (sym (ends.2.0 ∙ none.on.seen))
+    (owns-append is_producer (numbers_of l) p.seen none.on.more (owns-claimed is_producer (numbers_of l) l.seen p.seen first.part.claims never)
+    (owns-fewer is_producer (numbers_of l) (numbers_of p) none.on.more first.part.numbers none.none))
 
 pub callers-alone : (ls : List QueuePass) (cs : List (List QueuePass)) (ps last : List QueuePass) (asked : Option Quiet) (histories : List (List (Entry Op Reply))) (partitions : List PlainPartition) → Gathers ls cs ps → CameTo asked ps last
     → AreTraces last histories partitions → CallersAloneProduce cs histories
@@ -197,7 +134,7 @@ callers-alone ls cs ps last asked histories partitions gathers came traces queue
     let beside = zip-at IsFirstOf ls ps queue p gathers.first at.1 in
     let l = beside.0 in
     let never = all-at NeverProduces ls queue l gathers.never beside.1 in
-    let numbers : numbers_of ends.0 ≡ numbers_of p = ap (λ (w : QueuePass). numbers_of w) ends.1.only in
+    let numbers : numbers_of ends.0 ≡ numbers_of p = ap (λ (w : QueuePass). numbers_of w) ends.1.1.on.only in
     let own : Contains (numbers_of p) e.number = subst (λ ks. Contains ks e.number) numbers (own-at (numbers_of ends.0) history e ends.2.1 inside) in
     let has : slice_get (gathered ls cs) queue ≡ Some p = ap (λ (es : List QueuePass). slice_get es queue) (sym gathers.whole) ∙ at.1 in
     elim (numbers-gathered cs ls queue e.number l p beside.1 has own) as (λ w. HasSome (λ c. HasNumber queue e.number c) cs) [
@@ -233,10 +170,5 @@ trace-done p q history partition law asks trace =
 
 pub traces-done : (ps last : List QueuePass) (histories : List (List (Entry Op Reply))) (partitions : List PlainPartition) → QuietIsDone → AllZip IsQuiet ps last → AreTraces last histories partitions → AllZip IsDone histories partitions
 traces-done [] [] [] [] law all traces = tt
-traces-done [] [] [] (t ∷ ts) law all traces = absurd traces
-traces-done [] [] (h ∷ hs) ts law all traces = absurd traces
-traces-done [] (q ∷ qs) hs ts law all traces = absurd all
-traces-done (p ∷ ps) [] hs ts law all traces = absurd all
-traces-done (p ∷ ps) (q ∷ qs) [] ts law all traces = absurd traces
-traces-done (p ∷ ps) (q ∷ qs) (h ∷ hs) [] law all traces = absurd traces
 traces-done (p ∷ ps) (q ∷ qs) (h ∷ hs) (t ∷ ts) law all traces = (trace-done p q h t law all.0 traces.0, traces-done ps qs hs ts law all.1 traces.1)
+traces-done _ _ _ _ law all traces = absurd (search rules)

@@ -1,5 +1,8 @@
 -- Lines whose passes make calls, one after another.
-use Rattle.silo_threads.proofs.Prelude.{after, replied, first-of-all, goes-refl, goes-set, goes-trans, on-trans, calls-number, owns-append, owns-foreign, CallsOn, DirectoryPass, LineView, QueuePass, OwnsNone, AreSilent, GoOn, GoesOn, LineGoesOn, LineIsSilent, ◌≡◌, ◌≢◌, ℕ, zero, suc, ◌<◌, ◌≤◌, ◌+◌, false, inl, inr, List, [], ◌∷◌, ◌++◌, append_assoc, drop, length, get_or, set, Some, Result, Ok, Err, refl, sym, ap, subst, ◌∙◌, arith, drop-append_seam, drop-length, drop-append-le, slice_get-get_or, slice_get_within, slice_index, Reply, Op, Foreign, entry, Entry, Refusal}
+use Rattle.silo_threads.proofs.Prelude.{after, replied, first-of-all, goes-refl, goes-set, goes-trans, on-trans, calls-number, owns-append, owns-foreign, CallsOn, DirectoryPass, LineView, QueuePass, OwnsNone, AreSilent, GoOn, GoesOn, LineGoesOn, LineIsSilent, ◌≡◌, ◌≢◌, ℕ, zero, suc, ◌<◌, ◌≤◌, ◌+◌, false, inl, inr, List, [], ◌∷◌, ◌++◌, append_assoc, drop, length, get_or, set, Some, Result, Ok, Err, refl, sym, ap, subst, ◌∙◌, arith, drop-append_seam, drop-append-le, slice_get-get_or, slice_get_within, slice_index, Reply, Op, numbers_of, silent-refl, entry, Entry, Refusal}
+use Rattle.std.proofs.Math.ListN.{length-set}
+use Rattle.std.proofs.lemmas.List.{get_or-set_same}
+use Rattle.std.proofs.lemmas.Option.{slice_get_read}
 use Rattle.std.specs.List.{slice_get}
 use Rattle.stream_ident.specs.declared.ident.GrainId.{GrainId}
 use Rattle.stream_ident.specs.declared.token.Token.{Token}
@@ -16,19 +19,11 @@ use Rattle.silo_threads.specs.declared.operators.leaving.Release.{Release}
 use Rattle.silo_threads.specs.declared.operators.leaving.Release.TheVariants as release
 use Rattle.silo_threads.specs.Changes.{AreDeactivated, AtEachQueue, HasFound, HasFoundOne, HasMade, HasSince, HasMovedNowhere, HaveMovedNowhere, HaveOnlySeen, HaveStayed, HoldsGrains, IsAtSilo, IsDeactivated, IsDeactivation, IsMove, IsNoneLeft, IsRelease, IsSpentMove, IsUnmoved, LineHasOnlySeen, Releases, StaysBehind, halt_of, is_move}
 use Rattle.silo_threads.specs.Operators.{OperatorGoesOn, OperatorView}
-use Rattle.silo_threads.proofs.Rows.{zip-at}
-use Rattle.silo_threads.proofs.Making.{called-last, found-refused, goes-called, goes-longer, made-called, made-cases, made-earlier, made-later, made-none, made-refused}
+use Rattle.silo_threads.proofs.Rows.{zip-at, zip-both, zip-refl}
+use Rattle.silo_threads.proofs.Making.{called-last, found-refused, goes-called, goes-longer, made-called, made-cases, made-earlier, made-later, made-none, made-refused, owns-fewer}
 
-pub goes-at : (ls ms : List LineView) (k : ℕ) (l m : LineView) → GoOn ls ms → slice_get ls k ≡ Some l → slice_get ms k ≡ Some m → LineGoesOn l m
-goes-at [] ms k l m on a b = absurd (cc)
-goes-at (x ∷ ls) [] k l m on a b = absurd on
-goes-at (x ∷ ls) (y ∷ ms) zero l m on a b = subst (λ (w : LineView). LineGoesOn w m) (one-line (x ∷ []) 0 x l refl a) (subst (λ (w : LineView). LineGoesOn x w) (one-line (y ∷ []) 0 y m refl b) on.0)
-goes-at (x ∷ ls) (y ∷ ms) (suc k) l m on a b = goes-at ls ms k l m on.1 a b
-
-get-here : (ls : List LineView) (at : ℕ) (l m : LineView) → slice_get (set ls at l) at ≡ Some m → m ≡ l
-get-here [] at l m a = absurd (cc)
-get-here (x ∷ ls) zero l m a = sym (one-line (l ∷ []) 0 l m refl a)
-get-here (x ∷ ls) (suc at) l m a = get-here ls at l m a
+get-here : (ls : List LineView) (at : ℕ) (m : LineView) → at < length ls → slice_get (set ls at m) at ≡ Some m
+get-here ls at m within = slice_get_read (set ls at m) (length ls) at m (sym (length-set ls at m)) within (sym (get_or-set_same ls at m m within))
 
 get-other : (ls : List LineView) (at k : ℕ) (l : LineView) → k ≢ at → slice_get (set ls at l) k ≡ slice_get ls k
 get-other [] at k l other = refl
@@ -36,11 +31,6 @@ get-other (x ∷ ls) zero zero l other = absurd (other refl)
 get-other (x ∷ ls) zero (suc k) l other = refl
 get-other (x ∷ ls) (suc at) zero l other = refl
 get-other (x ∷ ls) (suc at) (suc k) l other = get-other ls at k l (λ same. other (ap (λ n. suc n) same))
-
-get-put : (ls : List LineView) (at : ℕ) (m : LineView) → at < length ls → slice_get (set ls at m) at ≡ Some m
-get-put [] at m within = absurd (omega arith)
-get-put (x ∷ ls) zero m within = refl
-get-put (x ∷ ls) (suc at) m within = get-put ls at m (omega arith)
 
 -- R holds of each of the first so many lines before and after; the others are as they were
 pub record Since (R : ℕ → LineView → LineView → Type 0) (at : ℕ) (old new : List LineView) : Type 0 where
@@ -52,28 +42,26 @@ module _ (R : ℕ → LineView → LineView → Type 0) where
   pub since-none : (old : List LineView) → Since R 0 old old
   since-none old = record { on = goes-refl old; made = λ k was is below a b. absurd (omega arith); rest = λ k past. refl }
 
-  pub since-on : (old new fresh : List LineView) (at : ℕ) (l m : LineView) → at < length new → l ≡ get_or new at l → LineGoesOn l m → fresh ≡ set new at m → Since R at old new → GoOn old fresh
-  since-on old new fresh at l m within read on put since =
-      goes-trans old new fresh since.on (subst (λ (es : List LineView). GoOn new es) (sym put) (goes-set new at l m within (subst (λ (w : LineView). LineGoesOn w m) read on)))
+  pub since-on : (old new : List LineView) (at : ℕ) (l m : LineView) → at < length new → l ≡ get_or new at l → LineGoesOn l m → Since R at old new → GoOn old (set new at m)
+  since-on old new at l m within read on since = goes-trans old new (set new at m) since.on (goes-set new at l m within (subst (λ (w : LineView). LineGoesOn w m) read on))
 
   -- the line that is next is as it was
   pub since-next : (old new : List LineView) (at : ℕ) (l : LineView) → at < length new → l ≡ get_or new at l → Since R at old new → slice_get old at ≡ Some l
   since-next old new at l within read since = sym (since.rest at (omega arith)) ∙ slice_get-get_or new at l within ∙ ap (λ (w : LineView). Some w) (sym read)
 
-  pub since-more : (old new fresh : List LineView) (at : ℕ) (l m : LineView) → at < length new → l ≡ get_or new at l → LineGoesOn l m → R at l m → fresh ≡ set new at m → Since R at old new → Since R (at + 1) old fresh
-  since-more old new fresh at l m within read on holds put since =
+  pub since-more : (old new : List LineView) (at : ℕ) (l m : LineView) → at < length new → l ≡ get_or new at l → LineGoesOn l m → R at l m → Since R at old new → Since R (at + 1) old (set new at m)
+  since-more old new at l m within read on holds since =
       record {
-        on = since-on old new fresh at l m within read on put since;
+        on = since-on old new at l m within read on since;
         made = λ k was is below a b.
-            let there : slice_get (set new at m) k ≡ Some is = ap (λ (es : List LineView). slice_get es k) (sym put) ∙ b in
             elim (lt-cases k at below) as (λ s. R k was is) [
-              | inl less ↦ since.made k was is less a (sym (get-other new at k m (λ same. absurd (omega (arith, same)))) ∙ there)
+              | inl less ↦ since.made k was is less a (sym (get-other new at k m (λ same. absurd (omega (arith, same)))) ∙ b)
               | inr same ↦
-                  let is_last : is ≡ m = get-here new at m is (ap (λ n. slice_get (set new at m) n) (sym same) ∙ there) in
-                  let is_first : l ≡ was = one-line old at l was (since-next old new at l within read since) (ap (λ n. slice_get old n) (sym same) ∙ a) in
-                  subst (λ n. R n was is) (sym same) (subst (λ (w : LineView). R at was w) (sym is_last) (subst (λ (w : LineView). R at w m) is_first holds))
+                  let is_last : m ≡ is = one-line (set new at m) k m is (ap (λ n. slice_get (set new at m) n) same ∙ get-here new at m within) b in
+                  let is_first : l ≡ was = one-line old k l was (ap (λ n. slice_get old n) same ∙ since-next old new at l within read since) a in
+                  subst (λ n. R n was is) (sym same) (subst (λ (w : LineView). R at was w) is_last (subst (λ (w : LineView). R at w m) is_first holds))
             ];
-        rest = λ k past. ap (λ (es : List LineView). slice_get es k) put ∙ get-other new at k m (λ same. absurd (omega (arith, past, same))) ∙ since.rest k (omega (arith, past));
+        rest = λ k past. get-other new at k m (λ same. absurd (omega (arith, past, same))) ∙ since.rest k (omega (arith, past));
       }
 
   pub since-all : (old new : List LineView) (at : ℕ) → length old ≤ at → Since R at old new → AtEachQueue old new R
@@ -81,37 +69,29 @@ module _ (R : ℕ → LineView → LineView → Type 0) where
 
 -- lines of which each is as before, save what its pass has seen
 pub seen-refl : (ls : List LineView) → HaveOnlySeen ls ls
-seen-refl [] = tt
-seen-refl (l ∷ ls) = ((refl, refl), seen-refl ls)
+seen-refl ls = zip-refl LineHasOnlySeen (λ l. (refl, refl)) ls
 
 seen-trans : (l m n : LineView) → LineHasOnlySeen l m → LineHasOnlySeen m n → LineHasOnlySeen l n
 seen-trans l m n a b = (b.0 ∙ a.0, b.1 ∙ ap (λ (p : QueuePass). record p { seen = n.pass.seen }) a.1)
 
 pub seen-set : (old new : List LineView) (at : ℕ) (l m : LineView) → at < length new → l ≡ get_or new at l → LineHasOnlySeen l m → HaveOnlySeen old new → HaveOnlySeen old (set new at m)
 seen-set [] [] at l m within read one all = absurd (omega arith)
-seen-set [] (y ∷ ys) at l m within read one all = absurd all
-seen-set (x ∷ xs) [] at l m within read one all = absurd all
 seen-set (x ∷ xs) (y ∷ ys) zero l m within read one all = (seen-trans x y m all.0 (subst (λ (w : LineView). LineHasOnlySeen w m) read one), all.1)
 seen-set (x ∷ xs) (y ∷ ys) (suc at) l m within read one all = (all.0, seen-set xs ys at l m (omega arith) read one all.1)
+seen-set _ _ at l m within read one all = absurd all
 
--- A queue that was moved nowhere: nothing was done, one other call was made, calls of others came, or it stays so.
-nowhere-same : (l : LineView) → HasMovedNowhere l l
-nowhere-same l = subst (λ (es : List (Entry Op Reply)). OwnsNone is_move (l.pass.number ∷ []) es) (sym (drop-length l.pass.seen)) tt
-
+-- A queue that was moved nowhere: one other call was made, calls of others came, or it stays so.
 nowhere-more : (l m : LineView) (more : List (Entry Op Reply)) → m.pass.seen ≡ l.pass.seen ++ more → OwnsNone is_move (m.pass.number ∷ []) more → HasMovedNowhere l m
 nowhere-more l m more seen none =
     subst (λ (es : List (Entry Op Reply)). OwnsNone is_move (m.pass.number ∷ []) es) (sym (ap (λ (es : List (Entry Op Reply)). drop (length l.pass.seen) es) seen ∙ drop-append_seam l.pass.seen more)) none
-
-foreign-own : (number : ℕ) (joined : List ℕ) (es : List (Entry Op Reply)) → Foreign (number ∷ joined) es → OwnsNone is_move (number ∷ []) es
-foreign-own number joined [] foreign = tt
-foreign-own number joined (e ∷ es) foreign = ((λ own. absurd (foreign.0 (first-of-all number joined e.number own))), foreign-own number joined es foreign.1)
 
 pub nowhere-called : (l : LineView) (o : Op) (r : Reply) (m : LineView) → CallsOn l o (Ok r) m → is_move o ≡ false → HasMovedNowhere l m
 nowhere-called l o r m calls other =
     let between = calls.call.call.0 in
     let last = entry l.pass.number o r in
     let number = calls-number replied after l.pass o (Ok r) m.pass calls.call in
-    let own = owns-append is_move (l.pass.number ∷ []) between (last ∷ []) (foreign-own l.pass.number l.pass.joined between calls.call.call.2) ((λ here. other), tt) in
+    let others = owns-fewer is_move (l.pass.number ∷ []) (numbers_of l.pass) between (first-of-all l.pass.number l.pass.joined) (owns-foreign is_move (numbers_of l.pass) between calls.call.call.2) in
+    let own = owns-append is_move (l.pass.number ∷ []) between (last ∷ []) others ((λ here. other), tt) in
     nowhere-more l m (between ++ last ∷ []) (calls.call.call.1 ∙ append_assoc l.pass.seen between (last ∷ [])) (subst (λ n. OwnsNone is_move (n ∷ []) (between ++ last ∷ [])) (sym number) own)
 
 nowhere-silent : (l m : LineView) → LineIsSilent l m → HasMovedNowhere l m
@@ -126,45 +106,36 @@ nowhere-both l m n on on2 first second =
     subst (λ (es : List (Entry Op Reply)). OwnsNone is_move (n.pass.number ∷ []) es) (sym whole)
     (owns-append is_move (n.pass.number ∷ []) (drop (length l.pass.seen) m.pass.seen) on2.more front (subst (λ (es : List (Entry Op Reply)). OwnsNone is_move (n.pass.number ∷ []) es) rest second))
 
-pub nowhere-none : (ls : List LineView) → HaveMovedNowhere ls ls
-nowhere-none ls queue was is had has = subst (λ (w : LineView). HasMovedNowhere was w) (one-line ls queue was is had has) (nowhere-same was)
-
 pub nowhere-trans : (old new fresh : List LineView) → GoOn old new → GoOn new fresh → HaveMovedNowhere old new → HaveMovedNowhere new fresh → HaveMovedNowhere old fresh
 nowhere-trans old new fresh on on2 first second queue was is had has =
     let middle = zip-at LineGoesOn new fresh queue is on2 has in
-    nowhere-both was middle.0 is (goes-at old new queue was middle.0 on had middle.1) middle.2 (first queue was middle.0 had middle.1) (second queue middle.0 is middle.1 has)
+    nowhere-both was middle.0 is (zip-both LineGoesOn old new queue was middle.0 on had middle.1) middle.2 (first queue was middle.0 had middle.1) (second queue middle.0 is middle.1 has)
 
 pub nowhere-silents : (old new : List LineView) → AreSilent old new → HaveMovedNowhere old new
-nowhere-silents [] new silent queue was is had has = absurd (cc (had))
-nowhere-silents (x ∷ xs) [] silent queue was is had has = absurd silent
-nowhere-silents (x ∷ xs) (y ∷ ys) silent zero was is had has =
-    subst (λ (w : LineView). HasMovedNowhere w is) (one-line (x ∷ []) 0 x was refl had) (subst (λ (w : LineView). HasMovedNowhere x w) (one-line (y ∷ []) 0 y is refl has) (nowhere-silent x y silent.0))
-nowhere-silents (x ∷ xs) (y ∷ ys) silent (suc queue) was is had has = nowhere-silents xs ys silent.1 queue was is had has
+nowhere-silents old new silent queue was is had has = nowhere-silent was is (zip-both LineIsSilent old new queue was is silent had has)
 
 -- queues that stay where they are stay so, seen from before as well
 pub stayed-earlier : (old new fresh : List LineView) (before now : List ℕ) → GoOn old new → GoOn new fresh → HaveMovedNowhere old new → HaveStayed new fresh before now → HaveStayed old fresh before now
 stayed-earlier old new fresh before now on on2 nowhere stayed queue was is had has same =
     let middle = zip-at LineGoesOn new fresh queue is on2 has in
-    nowhere-both was middle.0 is (goes-at old new queue was middle.0 on had middle.1) middle.2 (nowhere queue was middle.0 had middle.1) (stayed queue middle.0 is middle.1 has same)
+    nowhere-both was middle.0 is (zip-both LineGoesOn old new queue was middle.0 on had middle.1) middle.2 (nowhere queue was middle.0 had middle.1) (stayed queue middle.0 is middle.1 has same)
 
 -- a queue that has the silo that it had, where nothing was done, and one that was just moved
 pub at-same : (before now : ℕ) (l : LineView) → now ≡ before → IsAtSilo before now l l
-at-same before now l same =
-    ((λ other. absurd (other same)), λ again. nowhere-same l)
+at-same before now l same = ((λ other. absurd (other same)), λ again. nowhere-silent l l (silent-refl l.pass))
 
 pub at-other : (before now : ℕ) (l : LineView) (r : Reply) (m : LineView) → (now ≡ before → ⊥) → CallsOn l (op.Move now) (Ok r) m → (generation : ℕ) × (low : Token) × (r ≡ reply.Moved generation low) → IsAtSilo before now l m
 at-other before now l r m other calls moved =
     ((λ differs. called-last replied after is_move (IsMove now) l.pass (op.Move now) r m.pass calls.call (refl, moved)), λ same. absurd (other same))
 
 -- the queue whose move was refused stays behind
-pub behind-at : (why : Halt) (old new fresh : List LineView) (before now : List ℕ) (at : ℕ) (l m : LineView) → at < length new → slice_get old at ≡ Some l → fresh ≡ set new at m → slice_index now at ≢ slice_index before at
-    → IsUnmoved why (slice_index now at) l m → StaysBehind why old fresh before now
-behind-at why old new fresh before now at l m within had put other unmoved =
-    record { queue = at; was = l; is = m; had = had; has = ap (λ (es : List LineView). slice_get es at) put ∙ get-put new at m within; other = other; unmoved = unmoved }
+pub behind-at : (why : Halt) (old new : List LineView) (before now : List ℕ) (at : ℕ) (l m : LineView) → at < length new → slice_get old at ≡ Some l → slice_index now at ≢ slice_index before at → IsUnmoved why (slice_index now at) l m
+    → StaysBehind why old (set new at m) before now
+behind-at why old new before now at l m within had other unmoved = record { queue = at; was = l; is = m; had = had; has = get-here new at m within; other = other; unmoved = unmoved }
 
 -- the line whose call was refused has found its history so
-pub found-at : (why : Halt) (new fresh : List LineView) (at : ℕ) (m : LineView) → at < length new → fresh ≡ set new at m → HasFound why m.pass → HasFoundOne why fresh
-found-at why new fresh at m within put found = (at, m, ap (λ (es : List LineView). slice_get es at) put ∙ get-put new at m within, found)
+pub found-at : (why : Halt) (new : List LineView) (at : ℕ) (m : LineView) → at < length new → HasFound why m.pass → HasFoundOne why (set new at m)
+found-at why new at m within found = (at, m, get-here new at m within, found)
 
 -- a Move that was answered Spent, and one that was refused
 pub unmoved-spent : (l : LineView) (silo : ℕ) (m : LineView) → CallsOn l (op.Move silo) (Ok reply.Spent) m → IsUnmoved halt.Limit silo l m
@@ -188,30 +159,26 @@ pub each-later : (P : Op → Reply → Type 0) (old new fresh : List LineView) �
 each-later P old new fresh on on2 each =
     λ k was is a b.
     let middle = zip-at LineGoesOn new fresh k is on2 b in
-    let goes = goes-at old new k was middle.0 on a middle.1 in
+    let goes = zip-both LineGoesOn old new k was middle.0 on a middle.1 in
     made-later P (length was.pass.seen) middle.0.pass is.pass middle.2 (goes-longer was.pass middle.0.pass goes) (each k was middle.0 a middle.1)
 
 pub each-earlier : (P : Op → Reply → Type 0) (old new fresh : List LineView) → GoOn old new → GoOn new fresh → AtEachQueue new fresh (λ k was is. HasSince was is P) → AtEachQueue old fresh (λ k was is. HasSince was is P)
 each-earlier P old new fresh on on2 each =
     λ k was is a b.
     let middle = zip-at LineGoesOn new fresh k is on2 b in
-    let goes = goes-at old new k was middle.0 on a middle.1 in
+    let goes = zip-both LineGoesOn old new k was middle.0 on a middle.1 in
     made-earlier P (length was.pass.seen) (length middle.0.pass.seen) is.pass (goes-longer was.pass middle.0.pass goes) (each k middle.0 is middle.1 b)
 
 -- a silo's grains leave, one after another
-pub none-gone : (silo : ℕ) (d : DirectoryPass) (old : List LineView) → AreDeactivated silo d d old old
-none-gone silo d old = λ grain made. absurd (made-none (IsRelease silo grain) d made)
-
-grain-is : (silo left : ℕ) (grain other : GrainId) → IsRelease silo grain (asked.Down silo) (directory.Released other left) → grain ≡ other
-grain-is silo left grain other is = cc (is.1.1)
-
 pub one-gone : (silo : ℕ) (d e f : DirectoryPass) (old new fresh : List LineView) (other : GrainId) → GoesOn d e → Releases silo e (Ok (release.Grain other)) f → GoOn old new → GoOn new fresh → IsDeactivated new fresh other
     → AreDeactivated silo d e old new → AreDeactivated silo d f old fresh
 one-gone silo d e f old new fresh other on calls lines lines2 done before =
     λ grain made.
     elim (made-cases places.replied places.after (IsRelease silo grain) (length d.seen) e (asked.Down silo) (directory.Released other calls.0) f calls.1 (goes-longer d e on) made) as (λ s. IsDeactivated old fresh grain) [
       | inl earlier ↦ each-later (IsDeactivation grain) old new fresh lines lines2 (before grain earlier)
-      | inr is ↦ subst (λ g. IsDeactivated old fresh g) (sym (grain-is silo calls.0 grain other is)) (each-earlier (IsDeactivation other) old new fresh lines lines2 done)
+      | inr is ↦
+          let named : grain ≡ other = cc (is.1.1) in
+          subst (λ g. IsDeactivated old fresh g) (sym named) (each-earlier (IsDeactivation other) old new fresh lines lines2 done)
     ]
 
 pub all-gone : (silo : ℕ) (d e f : DirectoryPass) (old new : List LineView) → GoesOn d e → Releases silo e (Ok release.NoneLeft) f → AreDeactivated silo d e old new → AreDeactivated silo d f old new × HasMade (length d.seen) f (IsNoneLeft silo)
@@ -225,9 +192,6 @@ all-gone silo d e f old new on calls before = (
 )
 
 -- While grains come, none is said to be left.
-pub none-none : (silo : ℕ) (d : DirectoryPass) → HasMade (length d.seen) d (IsNoneLeft silo) → ⊥
-none-none silo d made = made-none (IsNoneLeft silo) d made
-
 pub none-released : (silo : ℕ) (d e f : DirectoryPass) (grain : GrainId) → GoesOn d e → Releases silo e (Ok (release.Grain grain)) f → (HasMade (length d.seen) e (IsNoneLeft silo) → ⊥) → HasMade (length d.seen) f (IsNoneLeft silo) → ⊥
 none-released silo d e f grain on calls none made =
     elim (made-cases places.replied places.after (IsNoneLeft silo) (length d.seen) e (asked.Down silo) (directory.Released grain calls.0) f calls.1 (goes-longer d e on) made) as (λ s. ⊥) [

@@ -9,19 +9,20 @@ use Rattle.silo_threads.proofs.Looking.{look-each}
 use Rattle.silo_threads.proofs.Rows.{zip-trans, zip-weaker}
 use Rattle.silo_threads.proofs.GoneOn.{looked-none, none-refl, none-trans}
 
-look-none : (old : List QueuePass) (result : Result Quiet Refusal) (new : List QueuePass) → AsksQuiet old result new → AllZip ProducesNone old new
-look-none old result new asks = look-each ProducesNone none-refl (λ answer p q one. looked-none p q answer one) old result new asks
-
 -- one look more
 pub looks-none : (old now new : List QueuePass) (result : Result Quiet Refusal) → AllZip ProducesNone old now → AsksQuiet now result new → AllZip ProducesNone old new
-looks-none old now new result so_far asks = zip-trans ProducesNone ProducesNone ProducesNone none-trans old now new so_far (look-none now result new asks)
+looks-none old now new result so_far asks =
+    zip-trans ProducesNone ProducesNone ProducesNone none-trans old now new so_far (look-each ProducesNone none-refl (λ answer p q one. looked-none p q answer one) now result new asks)
 
 pub none-on : (old new : List QueuePass) → AllZip ProducesNone old new → AllZip HasGoneOn old new
 none-on old new all = zip-weaker ProducesNone HasGoneOn (λ p q none. none.on) old new all
 
--- the last look
-pub last-look : (looks made : ℕ) (result : Result Quiet Refusal) (old now new : List QueuePass) → made < looks → LooksInVain made old now → AsksQuiet now result new → Looks looks result old new
-last-look looks made result old now new within vain asks = record { made = made; within = within; before = now; vain = vain; asks = asks }
+-- the last look, with all that is said of it
+pub last-look : (looks made : ℕ) (result : Result Quiet Refusal) (old now new : List QueuePass) → made < looks → AllZip ProducesNone old now → LooksInVain made old now → AsksQuiet now result new
+    → AllZip ProducesNone old new × AllZip HasGoneOn old new × Looks looks result old new
+last-look looks made result old now new within so_far vain asks =
+    let none = looks-none old now new result so_far asks in
+    (none, none-on old new none, record { made = made; within = within; before = now; vain = vain; asks = asks })
 
 -- one look more in vain
 pub vain-more : (looks : ℕ) (queue : ℕ) (why : Pending) (end : Quiet) (old now new : List QueuePass) → end ≡ NotQuiet queue why → LooksInVain looks old now → AsksQuiet now (Ok end) new → LooksInVain (looks + 1) old new

@@ -1,5 +1,5 @@
 -- Queues that are asked one after another whether they are quiet.
-use Rattle.silo_threads.proofs.Prelude.{after, replied, QueuePass, ◌≡◌, ◌⊎◌, ℕ, zero, suc, ◌+◌, ◌≤◌, inl, inr, List, [], ◌∷◌, ◌++◌, length, Option, Some, None, Result, Ok, Err, refl, sym, ap, subst, ◌∙◌, arith, add-one, length-map, none-some, AllZip, unwrap_or, slice_get, slice_set, Reply, Op, PlainPartition, legal_last, IsLegal, entry, replay, Entry, Refusal}
+use Rattle.silo_threads.proofs.Prelude.{after, replied, QueuePass, ◌≡◌, ◌⊎◌, ℕ, zero, suc, ◌+◌, inl, inr, List, [], ◌∷◌, length, Some, None, Result, Ok, Err, refl, sym, ap, subst, ◌∙◌, arith, add-one, length-map, none-some, AllZip, unwrap_or, slice_get, slice_set, Reply, PlainPartition, Refusal}
 use Rattle.stream_model.specs.declared.op.Op.TheVariants as op
 use Rattle.stream_model.specs.declared.reply.Pending.{Pending}
 use Rattle.stream_model.specs.declared.reply.Reply.TheVariants as reply
@@ -9,6 +9,7 @@ use Rattle.silo_threads.specs.Calls.{CallerCalls, turnstiles}
 use Rattle.silo_threads.specs.declared.ending.asking.Quiet.{Quiet}
 use Rattle.silo_threads.specs.declared.ending.asking.Quiet.TheVariants.{All, NotQuiet}
 use Rattle.silo_threads.specs.Asking.{Asks, AsksQuiet, AsksUpTo, IsQuiet, pending_of}
+use Rattle.silo_threads.proofs.Making.{called-reply}
 use Rattle.silo_threads.proofs.Rows.{zip-refl, zip-weaker}
 
 -- a look for quiet is answered by that, and changes nothing
@@ -24,22 +25,14 @@ look-keeps p = refl
 abbrev pub IsLook : Reply → Type 0
 IsLook r = (r ≡ reply.IsQuiet) ⊎ ((why : Pending) × (r ≡ reply.NotQuiet why))
 
-pending-look : (o : Option Pending) → IsLook (quiet_reply o)
-pending-look None = inl refl
-pending-look (Some why) = inr (why, refl)
-
 quiet-look : (p : PlainPartition) → IsLook (quiet p)
 unfolding quiet
-quiet-look p = pending-look (pending_in p)
+quiet-look p = elim (pending_in p) as (λ o. IsLook (quiet_reply o)) [ None ↦ inl refl | Some why ↦ inr (why, refl) ]
 
 pub asks-look : (r : Reply) (p q : QueuePass) → Asks (Ok r) p q → IsLook r
 asks-look r p q asks =
-    let called = asks.calls.call in
-    let s = asks.calls.origin.start.state in
-    let front = p.seen ++ called.0 in
-    let legal : IsLegal replied after s (front ++ entry p.number op.Quiet r ∷ []) = subst (λ (es : List (Entry Op Reply)). IsLegal replied after s es) called.1 called.3 in
-    let answered : r ≡ quiet (replay replied after s front) = legal_last replied after s front (entry p.number op.Quiet r) legal ∙ look-replies (replay replied after s front) in
-    subst (λ (e : Reply). IsLook e) (sym answered) (quiet-look (replay replied after s front))
+    let gets = called-reply replied after p op.Quiet r q asks.calls in
+    subst (λ (e : Reply). IsLook e) (sym (gets.1 ∙ look-replies gets.0)) (quiet-look gets.0)
 
 -- the reply from which what is left to do is taken, and the one from which nothing is
 pub pending-reply : (r : Reply) (why : Pending) → pending_of r ≡ Some why → r ≡ reply.NotQuiet why
@@ -70,44 +63,37 @@ asked-at zero result (p ∷ ps) now new was is front had put asks =
     let same : was ≡ p = cc in
     subst (λ (es : List QueuePass). AsksUpTo zero result (p ∷ ps) es) (sym (put ∙ ap (λ (es : List QueuePass). slice_set es 0 is) front))
     (subst (λ (w : QueuePass). Asks result w is) same asks, refl)
-asked-at (suc queue) result [] now new was is front had put asks = absurd front
-asked-at (suc queue) result (p ∷ ps) [] new was is front had put asks = absurd front
 asked-at (suc queue) result (p ∷ ps) (q ∷ qs) new was is front had put asks =
     subst (λ (es : List QueuePass). AsksUpTo (suc queue) result (p ∷ ps) es) (sym put)
     (front.0, asked-at queue result ps qs (slice_set qs queue is) was is front.1 had refl asks)
+asked-at (suc queue) result _ _ new was is front had put asks = absurd front
 
 -- what a call at the next queue makes of it
 pub asked-next : (queue : ℕ) (result : Result Reply Refusal) (old now new : List QueuePass) → QuietUpTo queue old now → CallerCalls now queue op.Quiet result new → AsksUpTo queue result old new
 asked-next queue result old now new front calls = asked-at queue result old now new calls.was calls.is front calls.had calls.whole calls.calls
 
 quiet-on : (queue : ℕ) (old new : List QueuePass) → AsksUpTo queue (Ok reply.IsQuiet) old new → QuietUpTo (suc queue) old new
-quiet-on queue [] new asks = absurd asks
-quiet-on queue (p ∷ ps) [] asks = absurd asks
 quiet-on zero (p ∷ ps) (q ∷ qs) asks = (asks.0, asks.1)
 quiet-on (suc queue) (p ∷ ps) (q ∷ qs) asks = (asks.0, quiet-on queue ps qs asks.1)
+quiet-on _ _ _ asks = absurd asks
 
 pub quiet-next : (queue : ℕ) (r : Reply) (old now new : List QueuePass) → QuietUpTo queue old now → CallerCalls now queue op.Quiet (Ok r) new → r ≡ reply.IsQuiet → QuietUpTo (queue + 1) old new
 quiet-next queue r old now new front calls is =
     let asks : AsksUpTo queue (Ok reply.IsQuiet) old new = subst (λ (e : Reply). AsksUpTo queue (Ok e) old new) is (asked-next queue (Ok r) old now new front calls) in
     subst (λ n. QuietUpTo n old new) (sym (add-one queue)) (quiet-on queue old new asks)
 
-quiet-through : (queue : ℕ) (old now : List QueuePass) → queue ≡ length old → QuietUpTo queue old now → AllZip IsQuiet old now
-quiet-through zero [] now here same = subst (λ (es : List QueuePass). AllZip IsQuiet [] es) (sym same) tt
-quiet-through zero (p ∷ ps) now here same = absurd (omega arith)
-quiet-through (suc queue) [] now here front = absurd front
-quiet-through (suc queue) (p ∷ ps) [] here front = absurd front
-quiet-through (suc queue) (p ∷ ps) (q ∷ qs) here front = (front.0, quiet-through queue ps qs (omega arith) front.1)
-
-pub quiet-all : (queue : ℕ) (old now : List QueuePass) → queue ≤ length old → length old ≤ queue → QuietUpTo queue old now → AllZip IsQuiet old now
-quiet-all queue old now low high front = quiet-through queue old now (omega arith) front
+pub quiet-all : (queue : ℕ) (old now : List QueuePass) → queue ≡ length old → QuietUpTo queue old now → AllZip IsQuiet old now
+quiet-all zero [] now here same = subst (λ (es : List QueuePass). AllZip IsQuiet [] es) (sym same) tt
+quiet-all zero (p ∷ ps) now here same = absurd (omega arith)
+quiet-all (suc queue) (p ∷ ps) (q ∷ qs) here front = (front.0, quiet-all queue ps qs (omega arith) front.1)
+quiet-all (suc queue) _ _ here front = absurd front
 
 -- what holds of a pass that was asked, and of one that wasn't, holds of each
 module _ (R : QueuePass → QueuePass → Type 0) (same : (p : QueuePass) → R p p) (asked : (result : Result Reply Refusal) (p q : QueuePass) → Asks result p q → R p q) where
   up-to-each : (queue : ℕ) (result : Result Reply Refusal) (ps qs : List QueuePass) → AsksUpTo queue result ps qs → AllZip R ps qs
-  up-to-each queue result [] qs asks = absurd asks
-  up-to-each queue result (p ∷ ps) [] asks = absurd asks
   up-to-each zero result (p ∷ ps) (q ∷ qs) asks = (asked result p q asks.0, subst (λ (es : List QueuePass). AllZip R ps es) (sym asks.1) (zip-refl R same ps))
   up-to-each (suc queue) result (p ∷ ps) (q ∷ qs) asks = (asked (Ok reply.IsQuiet) p q asks.0, up-to-each queue result ps qs asks.1)
+  up-to-each _ result _ _ asks = absurd asks
 
   pub look-each : (old : List QueuePass) (result : Result Quiet Refusal) (new : List QueuePass) → AsksQuiet old result new → AllZip R old new
   look-each old (Ok All) new asks = zip-weaker IsQuiet R (λ p q one. asked (Ok reply.IsQuiet) p q one) old new asks

@@ -1,5 +1,5 @@
 -- Calls that a pass has made past a mark.
-use Rattle.silo_threads.proofs.Prelude.{calls-number, CallsBy, GoesOn, IsSilent, ◌≡◌, ℕ, zero, suc, ◌≤◌, Bool, ◌⊎◌, inl, inr, List, [], ◌∷◌, ◌++◌, length, drop, Contains, Result, Ok, Err, refl, sym, ap, subst, ◌∙◌, append_assoc, arith, drop-append_seam, drop-length, append-nil, drop-append-le, length-append, legal_last, numbers_of, HasSome, Foreign, IsLegal, entry, replay, PassView, Entry, Refusal}
+use Rattle.silo_threads.proofs.Prelude.{calls-number, CallsBy, OwnsNone, GoesOn, IsSilent, ◌≡◌, ℕ, zero, suc, ◌≤◌, Bool, ◌⊎◌, inl, inr, List, [], ◌∷◌, ◌++◌, length, drop, Contains, Result, Ok, Err, refl, sym, ap, subst, ◌∙◌, append_assoc, arith, drop-append_seam, drop-length, append-nil, drop-append-le, length-append, legal_last, numbers_of, HasSome, Foreign, IsLegal, entry, replay, PassView, Entry, Refusal}
 use Rattle.std.specs.Result.{IfErr, IsErrAnd}
 use Rattle.silo_loops.proofs.Taking.{called-alone}
 use Rattle.silo_threads.specs.Changes.{HasFound, HasMade, HasMadeLast, halt_of}
@@ -51,19 +51,39 @@ module _ {O R : Type 0} where
         | inr there ↦ none-foreign number joined IsSuch es foreign.1 there
       ]
 
+  -- who did none of it under more numbers did none under fewer
+  pub owns-fewer : (test : O → Bool) (fewer numbers : List ℕ) (es : List (Entry O R)) → ((k : ℕ) → Contains fewer k → Contains numbers k) → OwnsNone test numbers es → OwnsNone test fewer es
+  owns-fewer test fewer numbers [] within none = tt
+  owns-fewer test fewer numbers (e ∷ es) within none = ((λ here. none.0 (within e.number here)), owns-fewer test fewer numbers es within none.1)
+
 module _ {O R S : Type 0} (IsSuch : O → R → Type 0) where
+  -- the pass has made this call, and it is such
+  abbrev IsOwn : PassView O R S → Entry O R → Type 0
+  IsOwn p e = (e.number ≡ p.number) × IsSuch e.op e.reply
+
   pub made-none : (p : PassView O R S) → HasMade (length p.seen) p IsSuch → ⊥
-  made-none p made = subst (λ (es : List (Entry O R)). HasSome (λ (e : Entry O R). (e.number ≡ p.number) × IsSuch e.op e.reply) es) (drop-length p.seen) made
+  made-none p made = subst (λ (es : List (Entry O R)). HasSome (IsOwn p) es) (drop-length p.seen) made
 
   pub made-earlier : (m n : ℕ) (p : PassView O R S) → m ≤ n → HasMade n p IsSuch → HasMade m p IsSuch
-  made-earlier m n p less made = some-drop (λ (e : Entry O R). (e.number ≡ p.number) × IsSuch e.op e.reply) m n p.seen less made
+  made-earlier m n p less made = some-drop (IsOwn p) m n p.seen less made
 
   pub made-later : (mark : ℕ) (p q : PassView O R S) → GoesOn p q → mark ≤ length p.seen → HasMade mark p IsSuch → HasMade mark q IsSuch
   made-later mark p q on less made =
-      let renamed = some-map (λ (e : Entry O R). (e.number ≡ p.number) × IsSuch e.op e.reply) (λ (e : Entry O R). (e.number ≡ q.number) × IsSuch e.op e.reply) (λ e own. (own.0 ∙ sym on.number, own.1)) (drop mark p.seen) made in
-      subst (λ (es : List (Entry O R)). HasSome (λ (e : Entry O R). (e.number ≡ q.number) × IsSuch e.op e.reply) es)
-      (sym (ap (λ (es : List (Entry O R)). drop mark es) on.seen ∙ drop-append-le mark p.seen on.more less))
-      (some-left (λ (e : Entry O R). (e.number ≡ q.number) × IsSuch e.op e.reply) (drop mark p.seen) on.more renamed)
+      subst (λ (es : List (Entry O R)). HasSome (IsOwn q) es) (sym (ap (λ (es : List (Entry O R)). drop mark es) on.seen ∙ drop-append-le mark p.seen on.more less))
+      (some-left (IsOwn q) (drop mark p.seen) on.more (some-map (IsOwn p) (IsOwn q) (λ e own. (own.0 ∙ sym on.number, own.1)) (drop mark p.seen) made))
+
+  -- what was made past the mark was made before, or is among what was seen since
+  made-since : (mark : ℕ) (p q : PassView O R S) (more : List (Entry O R)) → q.number ≡ p.number → q.seen ≡ p.seen ++ more → mark ≤ length p.seen → HasMade mark q IsSuch → HasMade mark p IsSuch ⊎ HasSome (IsOwn p) more
+  made-since mark p q more number seen less made =
+      some-cases (IsOwn p) (drop mark p.seen) more
+      (subst (λ (es : List (Entry O R)). HasSome (IsOwn p) es) (ap (λ (es : List (Entry O R)). drop mark es) seen ∙ drop-append-le mark p.seen more less)
+      (some-map (IsOwn q) (IsOwn p) (λ e own. (own.0 ∙ number, own.1)) (drop mark q.seen) made))
+
+  -- and what is among that was made since
+  made-more : (p q : PassView O R S) (more : List (Entry O R)) → q.number ≡ p.number → q.seen ≡ p.seen ++ more → HasSome (IsOwn p) more → HasMade (length p.seen) q IsSuch
+  made-more p q more number seen some =
+      subst (λ (es : List (Entry O R)). HasSome (IsOwn q) es) (sym (ap (λ (es : List (Entry O R)). drop (length p.seen) es) seen ∙ drop-append_seam p.seen more))
+      (some-map (IsOwn p) (IsOwn q) (λ e own. (own.0 ∙ sym number, own.1)) more some)
 
 -- the last call past a mark is so past an earlier one
 pub last-earlier : {O R S : Type 0} (test : O → Bool) (IsSuch : O → R → Type 0) (m n : ℕ) (p : PassView O R S) → m ≤ n → HasMadeLast test n p IsSuch → HasMadeLast test m p IsSuch
@@ -90,10 +110,8 @@ module _ {S O R : Type 0} (reply : S → O → R) (after : S → O → S) where
   pub made-called : (IsSuch : O → R → Type 0) (p : PassView O R S) (op : O) (r : R) (q : PassView O R S) → CallsBy reply after p op (Ok r) q → IsSuch op r → HasMade (length p.seen) q IsSuch
   made-called IsSuch p op r q calls such =
       let between = calls.call.0 in
-      let number = calls-number reply after p op (Ok r) q calls in
-      subst (λ (es : List (Entry O R)). HasSome (λ (e : Entry O R). (e.number ≡ q.number) × IsSuch e.op e.reply) es)
-      (sym (ap (λ (es : List (Entry O R)). drop (length p.seen) es) (calls.call.1 ∙ append_assoc p.seen between (entry p.number op r ∷ [])) ∙ drop-append_seam p.seen (between ++ entry p.number op r ∷ [])))
-      (some-right (λ (e : Entry O R). (e.number ≡ q.number) × IsSuch e.op e.reply) between (entry p.number op r ∷ []) (inl (sym number, such)))
+      let last = entry p.number op r ∷ [] in
+      made-more IsSuch p q (between ++ last) (calls-number reply after p op (Ok r) q calls) (calls.call.1 ∙ append_assoc p.seen between last) (some-right (IsOwn IsSuch p) between last (inl (refl, such)))
 
   -- a call that was just made is the last one
   pub called-last : (test : O → Bool) (IsSuch : O → R → Type 0) (p : PassView O R S) (op : O) (r : R) (q : PassView O R S) → CallsBy reply after p op (Ok r) q → IsSuch op r → HasMadeLast test (length p.seen) q IsSuch
@@ -116,16 +134,11 @@ module _ {S O R : Type 0} (reply : S → O → R) (after : S → O → S) where
   pub made-cases : (IsSuch : O → R → Type 0) (mark : ℕ) (p : PassView O R S) (op : O) (r : R) (q : PassView O R S) → CallsBy reply after p op (Ok r) q → mark ≤ length p.seen → HasMade mark q IsSuch → HasMade mark p IsSuch ⊎ IsSuch op r
   made-cases IsSuch mark p op r q calls less made =
       let between = calls.call.0 in
-      let last = entry p.number op r in
-      let number = calls-number reply after p op (Ok r) q calls in
-      let whole = ap (λ (es : List (Entry O R)). drop mark es) (calls.call.1 ∙ append_assoc p.seen between (last ∷ [])) ∙ drop-append-le mark p.seen (between ++ last ∷ []) less in
-      let own = some-map (λ (e : Entry O R). (e.number ≡ q.number) × IsSuch e.op e.reply) (λ (e : Entry O R). (e.number ≡ p.number) × IsSuch e.op e.reply) (λ e is. (is.0 ∙ number, is.1)) (drop mark q.seen) made in
-      let parts = some-cases (λ (e : Entry O R). (e.number ≡ p.number) × IsSuch e.op e.reply) (drop mark p.seen) (between ++ last ∷ [])
-      (subst (λ (es : List (Entry O R)). HasSome (λ (e : Entry O R). (e.number ≡ p.number) × IsSuch e.op e.reply) es) whole own) in
-      elim parts as (λ s. HasMade mark p IsSuch ⊎ IsSuch op r) [
+      let last = entry p.number op r ∷ [] in
+      elim (made-since IsSuch mark p q (between ++ last) (calls-number reply after p op (Ok r) q calls) (calls.call.1 ∙ append_assoc p.seen between last) less made) as (λ s. HasMade mark p IsSuch ⊎ IsSuch op r) [
         | inl before ↦ inl before
         | inr since ↦
-            elim (some-cases (λ (e : Entry O R). (e.number ≡ p.number) × IsSuch e.op e.reply) between (last ∷ []) since) as (λ s. HasMade mark p IsSuch ⊎ IsSuch op r) [
+            elim (some-cases (IsOwn IsSuch p) between last since) as (λ s. HasMade mark p IsSuch ⊎ IsSuch op r) [
               | inl foreign ↦ absurd (none-foreign p.number p.joined IsSuch between calls.call.2 foreign)
               | inr here ↦ elim here as (λ s. HasMade mark p IsSuch ⊎ IsSuch op r) [ inl is ↦ inr is.1 | inr none ↦ absurd none ]
             ]
@@ -146,26 +159,18 @@ module _ {S O R : Type 0} (reply : S → O → R) (after : S → O → S) where
   -- a refused call adds none to those that the pass has made
   pub made-refused : (IsSuch : O → R → Type 0) (mark : ℕ) (p : PassView O R S) (op : O) (e : Refusal) (q : PassView O R S) → CallsBy reply after p op (Err e) q → mark ≤ length p.seen → HasMade mark q IsSuch → HasMade mark p IsSuch
   made-refused IsSuch mark p op e q calls less made =
-      let between = calls.call.0 in
-      let number = calls-number reply after p op (Err e) q calls in
-      let whole = ap (λ (es : List (Entry O R)). drop mark es) calls.call.1 ∙ drop-append-le mark p.seen between less in
-      let own = some-map (λ (e : Entry O R). (e.number ≡ q.number) × IsSuch e.op e.reply) (λ (e : Entry O R). (e.number ≡ p.number) × IsSuch e.op e.reply) (λ e is. (is.0 ∙ number, is.1)) (drop mark q.seen) made in
-      let parts = some-cases (λ (e : Entry O R). (e.number ≡ p.number) × IsSuch e.op e.reply) (drop mark p.seen) between
-      (subst (λ (es : List (Entry O R)). HasSome (λ (e : Entry O R). (e.number ≡ p.number) × IsSuch e.op e.reply) es) whole own) in
-      elim parts as (λ s. HasMade mark p IsSuch) [
+      elim (made-since IsSuch mark p q calls.call.0 (calls-number reply after p op (Err e) q calls) calls.call.1 less made) as (λ s. HasMade mark p IsSuch) [
         | inl before ↦ before
-        | inr foreign ↦ absurd (none-foreign p.number p.joined IsSuch between calls.call.2 foreign)
+        | inr foreign ↦ absurd (none-foreign p.number p.joined IsSuch calls.call.0 calls.call.2 foreign)
       ]
 
 -- what was made since a pass that has made no call on its way to a later one is made since that one
 pub made-since-silent : {O R S : Type 0} (IsSuch : O → R → Type 0) (p q r : PassView O R S) → IsSilent p q → GoesOn q r → HasMade (length p.seen) r IsSuch → HasMade (length q.seen) r IsSuch
-made-since-silent {O} {R} {S} IsSuch p q r silent on made =
-    let whole = ap (λ (es : List (Entry O R)). drop (length p.seen) es) (on.seen ∙ ap (λ (es : List (Entry O R)). es ++ on.more) silent.on.seen ∙ append_assoc p.seen silent.on.more on.more) ∙ drop-append_seam p.seen (silent.on.more ++ on.more) in
-    let rest = ap (λ (es : List (Entry O R)). drop (length q.seen) es) on.seen ∙ drop-append_seam q.seen on.more in
-    let renumber = some-map (λ (e : Entry O R). (e.number ≡ r.number) × IsSuch e.op e.reply) (λ (e : Entry O R). (e.number ≡ p.number) × IsSuch e.op e.reply) (λ e is. (is.0 ∙ on.number ∙ silent.on.number, is.1)) silent.on.more in
-    let parts = some-cases (λ (e : Entry O R). (e.number ≡ r.number) × IsSuch e.op e.reply) silent.on.more on.more
-    (subst (λ (es : List (Entry O R)). HasSome (λ (e : Entry O R). (e.number ≡ r.number) × IsSuch e.op e.reply) es) whole made) in
-    elim parts as (λ s. HasMade (length q.seen) r IsSuch) [
-      | inl before ↦ absurd (none-foreign p.number [] IsSuch silent.on.more silent.foreign (renumber before))
-      | inr since ↦ subst (λ (es : List (Entry O R)). HasSome (λ (e : Entry O R). (e.number ≡ r.number) × IsSuch e.op e.reply) es) (sym rest) since
+made-since-silent IsSuch p q r silent on made =
+    elim (made-since IsSuch (length p.seen) q r on.more on.number on.seen (goes-longer p q silent.on) made) as (λ s. HasMade (length q.seen) r IsSuch) [
+      | inl before ↦ elim (made-since IsSuch (length p.seen) p q silent.on.more silent.on.number silent.on.seen (omega arith) before) as (λ s. HasMade (length q.seen) r IsSuch) [
+        | inl none ↦ absurd (made-none IsSuch p none)
+        | inr own ↦ absurd (none-foreign p.number [] IsSuch silent.on.more silent.foreign own)
+      ]
+      | inr since ↦ made-more IsSuch q r on.more on.number on.seen since
     ]

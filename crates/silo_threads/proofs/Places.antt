@@ -1,5 +1,5 @@
 -- A change of silos leaves the turnstiles of the queues.
-use Rattle.silo_threads.proofs.Prelude.{goes-places, places, ◌≡◌, ℕ, Result, Ok, Err, ap, AllocError}
+use Rattle.silo_threads.proofs.Prelude.{goes-places, places, ◌≡◌, ℕ, Result, Ok, ap, AllocError}
 use Rattle.silo_threads.specs.Operators.{OperatorGoesOn, OperatorView}
 use Rattle.silo_threads.specs.Clusters.{AnswersDown, AnswersUp, ClusterView}
 use Rattle.silo_threads.specs.declared.clusters.cluster.SiloDown.{SiloDown}
@@ -17,14 +17,10 @@ on-places v w on = goes-places v.lines w.lines on.lines
 pub up-places : (v w : ClusterView) (silo : ℕ) (result : Result SiloUp AllocError) → AnswersUp v silo result w → places w.operator.lines ≡ places v.operator.lines
 up-places v w silo (Ok up.Halted) answers = same-places v w answers.1
 up-places v w silo (Ok up.Already) answers = same-places v w answers.2
-up-places v w silo (Ok up.Up) answers = on-places v.operator w.operator answers.2.on
-up-places v w silo (Ok up.Limit) answers = on-places v.operator w.operator answers.2.on
-up-places v w silo (Err e) answers = on-places v.operator w.operator answers.2.on
+up-places v w silo _ answers = on-places v.operator w.operator answers.2.on
 
 pub down-places : (v w : ClusterView) (silo : ℕ) (result : Result SiloDown AllocError) → AnswersDown v silo result w → places w.operator.lines ≡ places v.operator.lines
 down-places v w silo (Ok down.Halted) answers = same-places v w answers.1
 down-places v w silo (Ok down.NotLive) answers = same-places v w answers.2
 down-places v w silo (Ok down.LastSilo) answers = same-places v w answers.2
-down-places v w silo (Ok down.Down) answers = on-places v.operator w.operator answers.2.on
-down-places v w silo (Ok down.Limit) answers = on-places v.operator w.operator answers.2.on
-down-places v w silo (Err e) answers = on-places v.operator w.operator answers.2.on
+down-places v w silo _ answers = on-places v.operator w.operator answers.2.on

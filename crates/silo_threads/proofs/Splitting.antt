@@ -19,17 +19,15 @@ module _ {O R S : Type 0} where
 
   all-unused : (ps qs : List (PassView O R S)) → AllZip IsSplitOff ps qs → AllByRecursion IsUnused qs
   all-unused [] [] all = tt
-  all-unused [] (q ∷ qs) all = absurd all
-  all-unused (p ∷ ps) [] all = absurd all
   all-unused (p ∷ ps) (q ∷ qs) all = (split-unused p q all.0, all-unused ps qs all.1)
+  all-unused _ _ all = absurd all
 
   -- passes at their turnstiles
   all-beside : (T : PassView O R S → PassView O R S → Type 0) → ((p q : PassView O R S) → T p q → AreAlike p q) → (ps qs : List (PassView O R S)) → AllZip T ps qs → turnstiles qs ≡ turnstiles ps
   all-beside T alike [] [] all = refl
-  all-beside T alike [] (q ∷ qs) all = absurd all
-  all-beside T alike (p ∷ ps) [] all = absurd all
   all-beside T alike (p ∷ ps) (q ∷ qs) all =
       ap (λ t. t ∷ turnstiles qs) (alike p q all.0) ∙ ap (λ ts. p.turnstile ∷ ts) (all-beside T alike ps qs all.1)
+  all-beside T alike _ _ all = absurd all
 
   pub front-alike : (ps qs : List (PassView O R S)) → turnstiles qs ≡ turnstiles ps → AllZipFront AreAlike ps qs
   front-alike ps [] same = tt
@@ -51,10 +49,9 @@ module _ {O R S : Type 0} where
 
   pub all-whole : (ps qs rs : List (PassView O R S)) → JoinsAll ps qs rs → rs ≡ joined_passes ps qs
   all-whole ps [] rs same = same
-  all-whole [] (q ∷ qs) rs j = absurd j
-  all-whole (p ∷ ps) (q ∷ qs) [] j = absurd j
   all-whole (p ∷ ps) (q ∷ qs) (r ∷ rs) j =
       ap (λ (e : PassView O R S). e ∷ rs) j.0.whole ∙ ap (λ (es : List (PassView O R S)). joined_pass p q ∷ es) (all-whole ps qs rs j.1)
+  all-whole _ (q ∷ qs) _ j = absurd j
 
   pub turnstiles-joined : (ps qs : List (PassView O R S)) → turnstiles (joined_passes ps qs) ≡ turnstiles ps
   turnstiles-joined ps [] = refl

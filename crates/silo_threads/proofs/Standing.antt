@@ -1,7 +1,7 @@
 -- What a change of silos leaves.
-use Rattle.silo_threads.proofs.Prelude.{IsBalanced, goes-length, goes-places, goes-refl, goes-trans, on-refl, split-places, still-at, taken-silo, DirectoryPass, LineView, QueuePass, places, IsOtherIn, OwnsNone, AreSilent, AreTakenIn, GoOn, GoesOn, HasRun, IsFresh, IsSilent, IsSiloAt, IsSplitLine, LineGoesOn, SiloView, ◌≡◌, ◌⊎◌, inl, inr, ℕ, zero, suc, ◌<◌, ◌≤◌, ◌+◌, Bool, true, false, List, [], ◌∷◌, ◌++◌, length, drop, get_or, map, remove, Contains, Some, Result, Ok, Err, refl, sym, ap, subst, ◌∙◌, arith, get_or-map, length-append, length-map, length_push, map-append, slice_get-get_or, slice_get_within, AllByRecursion, AllZip, range_with_len, slice_index, unwrap_or, replicate, ◌||◌, AllocError, All-push, Reply, Op, Entry}
+use Rattle.silo_threads.proofs.Prelude.{IsBalanced, goes-length, goes-places, goes-refl, goes-trans, on-refl, split-places, still-at, taken-silo, DirectoryPass, LineView, QueuePass, places, IsOtherIn, OwnsNone, AreSilent, AreTakenIn, GoOn, GoesOn, HasRun, IsFresh, IsSilent, IsSiloAt, IsSplitLine, LineGoesOn, SiloView, ◌≡◌, ◌⊎◌, inl, inr, ℕ, zero, suc, ◌<◌, ◌≤◌, ◌+◌, Bool, true, false, List, [], ◌∷◌, ◌++◌, length, drop, get_or, map, remove, Contains, Some, Result, Ok, Err, refl, sym, ap, subst, ◌∙◌, arith, get_or-map, length-append, length-map, length_push, map-append, slice_get-get_or, slice_get_within, AllByRecursion, AllZip, range_with_len, slice_index, unwrap_or, replicate, ◌||◌, AllocError, All-push, All-weaken, map-id, Reply, Op, Entry}
 use Rattle.std.proofs.lemmas.List.Edits.{length-remove}
-use Rattle.std.proofs.lemmas.List.FromFn.{get_or-range_with_len, length-range_with_len}
+use Rattle.std.proofs.lemmas.List.FromFn.{get_or-range_with_len, length-range_with_len, map-range_with_len_more}
 use Rattle.std.specs.List.{slice_get}
 use Rattle.std.specs.Prelude.{IfOk, OnOk}
 use Rattle.activation_directory.specs.declared.op.DirectoryOp.{DirectoryOp}
@@ -17,8 +17,8 @@ use Rattle.silo_threads.specs.declared.operators.halt.Halt.{Halt}
 use Rattle.silo_threads.specs.declared.operators.halt.Halt.TheVariants as halt
 use Rattle.silo_threads.specs.Changes.{AreDeactivated, HasFound, HasMade, HasSince, HaveMoved, HaveMovedNowhere, HaveStayed, HoldsGrains, IsDeactivation, IsMove, IsNoneLeft, IsRelease, IsSpentMove, StaysBehind, is_move}
 use Rattle.silo_threads.specs.Operators.{HasOnlyGoneOn, HasSpread, IsUnspread, OperatorGoesOn, OperatorView}
-use Rattle.silo_threads.proofs.Changing.{each-earlier, each-later, goes-at, nowhere-silents, nowhere-trans, op-trans, stayed-earlier}
-use Rattle.silo_threads.proofs.Rows.{all-at, zip-at}
+use Rattle.silo_threads.proofs.Changing.{each-earlier, each-later, nowhere-silents, nowhere-trans, op-trans, stayed-earlier}
+use Rattle.silo_threads.proofs.Rows.{all-at, zip-at, zip-both}
 use Rattle.silo_threads.proofs.Splitting.{split-unused}
 use Rattle.silo_threads.proofs.Spreading.{only-refl}
 use Rattle.silo_threads.proofs.Making.{goes-longer, last-earlier, made-earlier, made-since-silent}
@@ -55,8 +55,7 @@ pub only-trans : (u v w : OperatorView) → HasOnlyGoneOn u v → HasOnlyGoneOn 
 only-trans u v w a b = record { on = op-trans u v w a.on b.on; live = b.live ∙ a.live; assignment = b.assignment ∙ a.assignment }
 
 pub sits-on : (v w : OperatorView) (ss : List SiloView) → OperatorGoesOn v w → AllByRecursion (IsSiloAt v.lines v.directory) ss → AllByRecursion (IsSiloAt w.lines w.directory) ss
-sits-on v w [] on all = tt
-sits-on v w (s ∷ ss) on all = (sits-one v w s on all.0, sits-on v w ss on all.1)
+sits-on v w ss on all = All-weaken (IsSiloAt v.lines v.directory) (IsSiloAt w.lines w.directory) (λ s at. sits-one v w s on at) ss all
 
 module _ {A : Type 0} (P : A → Type 0) where
   pub all-remove : (xs : List A) (at : ℕ) → AllByRecursion P xs → AllByRecursion P (remove xs at)
@@ -81,7 +80,7 @@ moved-earlier : (old new fresh : List LineView) (before now : List ℕ) → GoOn
 moved-earlier old new fresh before now on on2 moved =
     λ k was is a b differs.
     let middle = zip-at LineGoesOn new fresh k is on2 b in
-    let goes = goes-at old new k was middle.0 on a middle.1 in
+    let goes = zip-both LineGoesOn old new k was middle.0 on a middle.1 in
     last-earlier is_move (IsMove (slice_index now k)) (length was.pass.seen) (length middle.0.pass.seen) is.pass (goes-longer was.pass middle.0.pass goes) (moved k middle.0 is middle.1 b differs)
 
 pub spread-from : (u v w : OperatorView) → OperatorGoesOn u v → OperatorGoesOn v w → v.assignment ≡ u.assignment → HasSpread v w → HasSpread u w
@@ -147,8 +146,7 @@ evict-met u w silo d on why is holds =
 
 -- some silo lives where one came, and where one of two or more went
 pub came-some : (live : List ℕ) (silo : ℕ) → live ++ silo ∷ [] ≡ [] → ⊥
-came-some [] silo none = absurd (cc (none))
-came-some (x ∷ xs) silo none = absurd (cc (none))
+came-some live silo none = absurd (omega (arith, length_push live silo, ap (λ (xs : List ℕ). length xs) none))
 
 pub left-some : (live : List ℕ) (place : ℕ) → place < length live → 1 < length live → remove live place ≡ [] → ⊥
 left-some live place within others none =
@@ -211,18 +209,8 @@ emptied-whole silo lines d e s named taken none_left =
 
 at-goes : (config : Config) (ls ms : List LineView) → GoOn ls ms → AreAtQueues config ls → AreAtQueues config ms
 at-goes config [] [] on at = tt
-at-goes config [] (m ∷ ms) on at = absurd on
-at-goes config (l ∷ ls) [] on at = absurd on
 at-goes config (l ∷ ls) (m ∷ ms) on at = ((at.0.0, on.0.turnstile ∙ at.0.1, at.0.2), at-goes config ls ms on.1 at.1)
-
--- there are as many passes as lines at the same turnstiles
-as-many : (caller : List QueuePass) (lines : List LineView) → turnstiles caller ≡ places lines → length caller ≡ length lines
-as-many caller lines beside =
-    sym (length-map caller (λ (p : QueuePass). p.turnstile)) ∙ ap (λ ts. length ts) beside ∙ length-map lines (λ (l : LineView). l.pass.turnstile)
-
--- a pass stays at its turnstile
-directory-goes : (config : Config) (d e : DirectoryPass) → GoesOn d e → IsAtDirectory config d → IsAtDirectory config e
-directory-goes config d e on at = (at.0, on.turnstile ∙ at.1, at.2)
+at-goes config _ _ on at = absurd on
 
 first-silo : (n queue : ℕ) → slice_index (replicate n 0) queue ≡ 0
 first-silo zero queue = refl
@@ -243,15 +231,9 @@ left-first ls ms n assignment on unseen stayed queue l had here =
     subst (λ (es : List (Entry Op Reply)). OwnsNone is_move (l.pass.number ∷ []) (drop (length es) l.pass.seen)) none (stayed queue was.0 l was.1 had (here ∙ sym (first-silo n queue)))
 
 -- one number more at the end
-pub range-more : (a n : ℕ) → range_with_len a (suc n) ≡ range_with_len a n ++ (a + n) ∷ []
-range-more a zero = ap (λ k. k ∷ []) (omega arith)
-range-more a (suc n) = ap (λ xs. a ∷ xs) (range-more (a + 1) n ∙ ap (λ k. range_with_len (a + 1) n ++ k ∷ []) (omega arith))
-
 pub range-next : (n : ℕ) → range_with_len 0 n ++ n ∷ [] ≡ range_with_len 0 (n + 1)
 range-next n =
-    let same : n ≡ 0 + n = omega arith in
-    let more : suc n ≡ n + 1 = omega arith in
-    ap (λ k. range_with_len 0 n ++ k ∷ []) same ∙ sym (range-more 0 n) ∙ ap (λ k. range_with_len 0 k) more
+    ap (λ xs. xs ++ n ∷ []) (sym (map-id (range_with_len 0 n))) ∙ sym (map-range_with_len_more (λ (k : ℕ). k) 0 n n (omega arith)) ∙ map-id (range_with_len 0 (n + 1))
 
 pub range-absent : (n : ℕ) → Contains (range_with_len 0 n) n → ⊥
 range-absent n (at, within, here) =
@@ -262,9 +244,8 @@ range-absent n (at, within, here) =
 
 all-unused : (ls ms : List LineView) → AllZip IsSplitLine ls ms → AllByRecursion IsUnused (map (λ (l : LineView). l.pass) ms)
 all-unused [] [] all = tt
-all-unused [] (m ∷ ms) all = absurd all
-all-unused (l ∷ ls) [] all = absurd all
 all-unused (l ∷ ls) (m ∷ ms) all = (split-unused l.pass m.pass all.0.0, all-unused ls ms all.1)
+all-unused _ _ all = absurd all
 
 pub line-turnstiles : (ls : List LineView) → turnstiles (map (λ (l : LineView). l.pass) ls) ≡ places ls
 line-turnstiles [] = refl
@@ -323,9 +304,6 @@ lives-at live place silo stood =
 pub may-go : (v : ClusterView) (place silo : ℕ) → slice_get v.operator.live place ≡ Some silo → (length v.operator.live ≡ 1 → ⊥) → MayGo v silo
 may-go v place silo stood other = let within = slice_get_within v.operator.live place silo stood in (lives-at v.operator.live place silo stood, omega (arith, within, other))
 
-pub one-name : (live : List ℕ) (place one other : ℕ) → slice_get live place ≡ Some one → slice_get live place ≡ Some other → one ≡ other
-one-name live place one other a b = ap (λ o. unwrap_or o one) (sym a ∙ b)
-
 -- what a new operator comes to, once its first silos live and the queues are spread over them
 pub opened-whole : (config : Config) (first lines own : List LineView) (d : DirectoryPass) (v e w : OperatorView) (caller : List QueuePass) → lines ≡ first → length first ≡ config.queues → AreAtQueues config first → HaveSeenNone first → AllZip IsSplitLine first own → caller ≡ passes_of own → IsAtDirectory config d
     → v ≡ record { lines = lines; directory = d; live = []; assignment = replicate (length lines) 0 } → e ≡ record v { live = range_with_len 0 config.silos } → OperatorGoesOn e w → w.live ≡ e.live → HasSpread e w → HaveStayed e.lines w.lines e.assignment w.assignment → IsOpened config w caller
@@ -334,19 +312,19 @@ opened-whole config first lines own d v e w caller same many at unseen new passe
     let kept : e.lines ≡ first = ap (λ (o : OperatorView). o.lines) enlisted ∙ ap (λ (o : OperatorView). o.lines) made ∙ same in
     let all : e.assignment ≡ replicate config.queues 0 =
     ap (λ (o : OperatorView). o.assignment) enlisted ∙ ap (λ (o : OperatorView). o.assignment) made ∙ ap (λ n. replicate n 0) (ap (λ (ls : List LineView). length ls) same ∙ many) in
+    let there : IsAtDirectory config e.directory = subst (λ (x : DirectoryPass). IsAtDirectory config x) (sym (ap (λ (o : OperatorView). o.directory) enlisted ∙ ap (λ (o : OperatorView). o.directory) made)) placed in
     record {
       live = live ∙ ap (λ (o : OperatorView). o.live) enlisted;
       queues = goes-length e.lines w.lines on.lines ∙ ap (λ (ls : List LineView). length ls) kept ∙ many;
       at = at-goes config e.lines w.lines on.lines (subst (λ (ls : List LineView). AreAtQueues config ls) (sym kept) at);
-      directory = directory-goes config e.directory w.directory on.directory
-          (subst (λ (x : DirectoryPass). IsAtDirectory config x) (sym (ap (λ (o : OperatorView). o.directory) enlisted ∙ ap (λ (o : OperatorView). o.directory) made)) placed);
+      directory = (there.0, on.directory.turnstile ∙ there.1, there.2);
       balanced = subst (λ (xs : List ℕ). IsBalanced xs w.live w.assignment) all spread.balanced;
       moved = moved-first e.lines w.lines config.queues w.assignment on.lines (subst (λ (xs : List ℕ). HaveMoved e.lines w.lines xs w.assignment) all spread.moved);
       stayed =
           left-first e.lines w.lines config.queues w.assignment on.lines (subst (λ (ls : List LineView). HaveSeenNone ls) (sym kept) unseen)
           (subst (λ (xs : List ℕ). HaveStayed e.lines w.lines xs w.assignment) all stayed);
       beside = beside ∙ ap (λ (ls : List LineView). places ls) (sym kept) ∙ sym (goes-places e.lines w.lines on.lines);
-      each = as-many caller first beside ∙ many;
+      each = sym (length-map caller (λ (p : QueuePass). p.turnstile)) ∙ ap (λ ts. length ts) beside ∙ length-map first (λ (l : LineView). l.pass.turnstile) ∙ many;
       unused = subst (λ (ps : List QueuePass). AllByRecursion IsUnused ps) (sym passes) (all-unused first own new);
     }
 
@@ -364,7 +342,7 @@ pub has-noted : (v w : ClusterView) (place silo : ℕ) (s back : SiloView) → i
 has-noted v w place silo s back fixed kept stood read others ran came ends =
     let within = place-within v.silos v.operator.live place silo (kept.loops fixed) stood in
     let lives = silo-place v.silos v.operator.live place s (kept.loops fixed) within read ∙ ap (λ (k : ℕ). Some k) (sym ran.silo) in
-    let named = one-name v.operator.live place back.silo silo lives stood in
+    let named : back.silo ≡ silo = cc (lives, stood) in
     let IsNew : SiloView → Type 0 = λ s. IsFresh v.rounds s.silo s in
     let new : IsFresh v.rounds s.silo s = subst IsNew (sym read) (All-at IsNew v.silos place s kept.fresh within) in
     let found : HasNoted v silo w =
@@ -385,12 +363,9 @@ has-noted v w place silo s back fixed kept stood read others ran came ends =
 pub taken-op : (v w : OperatorView) (s : SiloView) → OperatorGoesOn v w → AreTakenIn v.lines v.directory s → AreTakenIn w.lines w.directory s
 taken-op v w s on taken = taken-silo v.lines w.lines v.directory w.directory s on.lines on.directory taken
 
-back-op : (v w : OperatorView) (s : SiloView) → OperatorGoesOn v w → HaveComeBack v.lines v.directory s → HaveComeBack w.lines w.directory s
-back-op v w s on came = record { taken = taken-op v w s on came.taken; causes = came.causes }
-
 pub all-back : (v w : OperatorView) (ss : List SiloView) → OperatorGoesOn v w → AllByRecursion (HaveComeBack v.lines v.directory) ss → AllByRecursion (HaveComeBack w.lines w.directory) ss
-all-back v w [] on all = tt
-all-back v w (s ∷ ss) on all = (back-op v w s on all.0, all-back v w ss on all.1)
+all-back v w ss on all =
+    All-weaken (HaveComeBack v.lines v.directory) (HaveComeBack w.lines w.directory) (λ s came. record { taken = taken-op v w s on came.taken; causes = came.causes }) ss all
 
 -- callers of lines are at them while those go on
 pub callers-on : (ls ms : List LineView) (callers : List (List QueuePass)) → GoOn ls ms → AllByRecursion (AreAt (places ls)) callers → AllByRecursion (AreAt (places ms)) callers

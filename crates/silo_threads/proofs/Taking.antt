@@ -1,5 +1,7 @@
 -- Passes that take in others, one after another.
-use Rattle.silo_threads.proofs.Prelude.{LineView, NeverProduces, QueuePass, places, IsOtherIn, IsPartOf, ◌≡◌, ℕ, List, [], ◌∷◌, ◌++◌, length, Contains, refl, sym, ap, subst, ◌∙◌, append_assoc, arith, append-nil, Contains-append_left, Contains-append_right, AllByRecursion, AllZip, Reply, Op, foreign-append, joined_pass, numbers_of, Foreign, Entry}
+use Rattle.silo_threads.proofs.Prelude.{LineView, NeverProduces, QueuePass, places, IsOtherIn, IsPartOf, ◌≡◌, ℕ, List, [], ◌∷◌, ◌++◌, length, Contains, refl, sym, ap, subst, ◌∙◌, append_assoc, arith, append-nil, AllByRecursion, AllZip, Reply, Op, foreign-append, numbers_of, Foreign, Entry}
+use Rattle.silo_loops.proofs.Going.{on-joined}
+use Rattle.silo_loops.proofs.Taking.{taken-joined}
 use Rattle.silo_threads.specs.Calls.{Joins, JoinsAll, turnstiles}
 use Rattle.silo_threads.proofs.Splitting.{all-whole, turnstiles-joined}
 use Rattle.silo_threads.specs.Gathering.{AreAt, Gathers, IsFirstOf, JoinsEach, gathered, passes_of}
@@ -8,13 +10,9 @@ use Rattle.silo_threads.proofs.Rows.{zip-refl, zip-trans}
 use Rattle.silo_threads.proofs.Standing.{line-turnstiles}
 
 -- who has none of more numbers has none of fewer
-pub foreign-within : (fewer numbers : List ℕ) (es : List (Entry Op Reply)) → ((k : ℕ) → Contains fewer k → Contains numbers k) → Foreign numbers es → Foreign fewer es
+foreign-within : (fewer numbers : List ℕ) (es : List (Entry Op Reply)) → ((k : ℕ) → Contains fewer k → Contains numbers k) → Foreign numbers es → Foreign fewer es
 foreign-within fewer numbers [] within f = tt
 foreign-within fewer numbers (e ∷ es) within f = ((λ here. f.0 (within e.number here)), foreign-within fewer numbers es within f.1)
-
--- the number under which a pass calls is one of its numbers
-pub has-number : (p : QueuePass) → Contains (numbers_of p) p.number
-has-number p = (0, omega arith, refl)
 
 part-refl : (p : QueuePass) → IsPartOf p p
 part-refl p = record { numbers = λ k here. here; claims = record { rest = []; is = sym (append-nil p.seen); foreign = tt } }
@@ -40,43 +38,19 @@ first-trans p q r a b = record { part = part-trans p q r a.part b.part; number =
 other-trans : (p q r : QueuePass) → IsOtherIn p q → IsFirstOf q r → IsOtherIn p r
 other-trans p q r a b = record { part = part-trans p q r a.part b.part; other = λ here. a.other (subst (λ k. Contains (numbers_of p) k) b.number here) }
 
-numbers-joined : (p q r : QueuePass) → r ≡ joined_pass p q → numbers_of r ≡ numbers_of p ++ numbers_of q
-numbers-joined p q r is = ap (λ (w : QueuePass). numbers_of w) is
-
 joins-first : (p q r : QueuePass) → Joins p q r → IsFirstOf p r
-joins-first p q r j =
-    record {
-      part =
-          record {
-            numbers = λ k here. subst (λ ks. Contains ks k) (sym (numbers-joined p q r j.whole)) (Contains-append_left (numbers_of p) (numbers_of q) k here);
-            claims = j.agree.0;
-          };
-      number = ap (λ (w : QueuePass). w.number) j.whole;
-    }
-
-joins-other : (p q r : QueuePass) → Joins p q r → IsOtherIn q r
-joins-other p q r j =
-    record {
-      part =
-          record {
-            numbers = λ k here. subst (λ ks. Contains ks k) (sym (numbers-joined p q r j.whole)) (Contains-append_right (numbers_of p) (numbers_of q) k here);
-            claims = j.agree.1;
-          };
-      other = λ here. j.agree.2 p.number (has-number p) (subst (λ k. Contains (numbers_of q) k) (ap (λ (w : QueuePass). w.number) j.whole) here);
-    }
+joins-first p q r j = let on = on-joined p q r j.whole j.agree in record { part = record { numbers = on.numbers; claims = j.agree.0 }; number = on.number }
 
 all-first : (ps qs rs : List QueuePass) → JoinsAll ps qs rs → AllZip IsFirstOf ps rs
 all-first ps [] rs same = subst (λ (es : List QueuePass). AllZip IsFirstOf ps es) (sym same) (zip-refl IsFirstOf first-refl ps)
-all-first [] (q ∷ qs) rs j = absurd j
-all-first (p ∷ ps) (q ∷ qs) [] j = absurd j
 all-first (p ∷ ps) (q ∷ qs) (r ∷ rs) j = (joins-first p q r j.0, all-first ps qs rs j.1)
+all-first _ (q ∷ qs) _ j = absurd j
 
 all-others : (ps qs rs : List QueuePass) → length qs ≡ length ps → JoinsAll ps qs rs → AllZip IsOtherIn qs rs
 all-others [] [] rs long same = subst (λ (es : List QueuePass). AllZip IsOtherIn [] es) (sym same) tt
 all-others (p ∷ ps) [] rs long same = absurd (omega arith)
-all-others [] (q ∷ qs) rs long j = absurd j
-all-others (p ∷ ps) (q ∷ qs) [] long j = absurd j
-all-others (p ∷ ps) (q ∷ qs) (r ∷ rs) long j = (joins-other p q r j.0, all-others ps qs rs (omega arith) j.1)
+all-others (p ∷ ps) (q ∷ qs) (r ∷ rs) long j = (taken-joined p q r j.0.whole j.0.agree, all-others ps qs rs (omega arith) j.1)
+all-others _ (q ∷ qs) _ long j = absurd j
 
 pub all-places : (ps qs rs : List QueuePass) → JoinsAll ps qs rs → turnstiles rs ≡ turnstiles ps
 all-places ps qs rs j = ap (λ (es : List QueuePass). turnstiles es) (all-whole ps qs rs j) ∙ turnstiles-joined ps qs

@@ -1,5 +1,5 @@
 -- The ends of turnstiles, one after another.
-use Rattle.silo_threads.proofs.Prelude.{BeganEmpty, after, replied, QueuePass, ◌≡◌, ◌≢◌, ℕ, zero, suc, ◌+◌, ◌<◌, ◌≤◌, inl, inr, List, [], ◌∷◌, ◌++◌, length, map, Result, Ok, IfOk, refl, sym, ap, subst, ◌∙◌, arith, append-nil, length-map, map-append, AllPairs, AllocError, All-push, Reply, Op, PlainPartition, IsOf, numbers_of, FirstCounted, FromAll, all_numbers, Own, Origin, Entry}
+use Rattle.silo_threads.proofs.Prelude.{BeganEmpty, after, replied, QueuePass, ◌≡◌, ◌≢◌, ℕ, zero, suc, ◌+◌, ◌≤◌, inl, inr, List, [], ◌∷◌, ◌++◌, length, map, Result, Ok, IfOk, refl, sym, subst, append-nil, AllPairs, AllocError, All-push, Reply, Op, PlainPartition, IsOf, numbers_of, FromAll, all_numbers, Own, Origin, Entry}
 use Rattle.stream_laws.specs.Laws.{OneHistory}
 use Rattle.shared_partition.proofs.Partitions.{legal-leaves, legal-tells}
 use Rattle.silo_threads.specs.declared.ending.closing.Closing.{Closing}
@@ -38,54 +38,24 @@ queue-trace was t p q ps history object partition law same of empty here alone a
     subst (λ (e : QueuePass). IsTraceOf e history partition) same
     (subst (λ (e : PlainPartition). IsTraceOf p history e) (sym is) (closed-trace was p history object law of empty of_one))
 
-pub closed-missing : (p : QueuePass) (back : List QueuePass) (missing : ℕ) → 0 < missing → FirstCounted (p ∷ []) back (length (all_numbers (p ∷ [])) + missing) → IsMissing p missing
-closed-missing p [] missing some counted = absurd counted
-closed-missing p (q ∷ qs) missing some counted =
-    let numbers : length (all_numbers (p ∷ [])) ≡ length (numbers_of p) = ap (λ ks. length ks) (append-nil (numbers_of p)) in
-    let more : p.made ≤ q.made = counted.0.1 in
-    let made : q.made ≡ length (all_numbers (p ∷ [])) + missing = counted.1 in
-    record { some = some; most = omega (arith, numbers, more, made) }
-
 -- one more queue behind
 pub missing-more : (queue missing : ℕ) (ps : List QueuePass) (p : QueuePass) → IsMissingFirst queue missing ps → HasEnd p → IsMissingFirst queue missing (ps ++ p ∷ [])
 missing-more queue missing [] p first ends = absurd first
 missing-more zero missing (x ∷ ps) p first ends = (first.0, All-push HasEnd ps p first.1 ends)
 missing-more (suc queue) missing (x ∷ ps) p first ends = (first.0, missing-more queue missing ps p first.1 ends)
 
-pub missing-here : (ps : List QueuePass) (histories : List (List (Entry Op Reply))) (partitions : List PlainPartition) (missing : ℕ) (p : QueuePass) → AreTraces ps histories partitions → IsMissing p missing
-    → IsMissingFirst (length histories) missing (ps ++ p ∷ [])
-missing-here [] [] [] missing p traces lost = (lost, tt)
-missing-here [] [] (t ∷ ts) missing p traces lost = absurd traces
-missing-here [] (h ∷ hs) ts missing p traces lost = absurd traces
-missing-here (x ∷ ps) [] ts missing p traces lost = absurd traces
-missing-here (x ∷ ps) (h ∷ hs) [] missing p traces lost = absurd traces
-missing-here (x ∷ ps) (h ∷ hs) (t ∷ ts) missing p traces lost = (record { history = h; partition = t; trace = traces.0 }, missing-here ps hs ts missing p traces.1 lost)
-
-traced-more : (ps : List QueuePass) (histories : List (List (Entry Op Reply))) (partitions : List PlainPartition) (p : QueuePass) (history : List (Entry Op Reply)) (partition : PlainPartition) → AreTraces ps histories partitions
-    → IsTraceOf p history partition → AreTraces (ps ++ p ∷ []) (histories ++ history ∷ []) (partitions ++ partition ∷ [])
-traced-more [] [] [] p history partition traces trace = (trace, tt)
-traced-more [] [] (t ∷ ts) p history partition traces trace = absurd traces
-traced-more [] (h ∷ hs) ts p history partition traces trace = absurd traces
-traced-more (x ∷ ps) [] ts p history partition traces trace = absurd traces
-traced-more (x ∷ ps) (h ∷ hs) [] p history partition traces trace = absurd traces
-traced-more (x ∷ ps) (h ∷ hs) (t ∷ ts) p history partition traces trace = (traces.0, traced-more ps hs ts p history partition traces.1 trace)
-
 module _ {H : Type 0} (entries : H → List (Entry Op Reply)) where
-  -- the same over histories as they are stored
-  pub stored-more : (ps : List QueuePass) (hs more : List H) (ts rest : List PlainPartition) (p : QueuePass) (h : H) (t : PlainPartition) → more ≡ hs ++ h ∷ [] → rest ≡ ts ++ t ∷ []
-      → AreTraces ps (map entries hs) ts → IsTraceOf p (entries h) t → AreTraces (ps ++ p ∷ []) (map entries more) rest
-  stored-more ps hs more ts rest p h t put_history put_partition traces trace =
-      let histories : map entries more ≡ map entries hs ++ entries h ∷ [] = ap (λ (es : List H). map entries es) put_history ∙ map-append entries hs (h ∷ []) in
-      subst (λ (es : List (List (Entry Op Reply))). AreTraces (ps ++ p ∷ []) es rest) (sym histories)
-      (subst (λ (es : List PlainPartition). AreTraces (ps ++ p ∷ []) (map entries hs ++ entries h ∷ []) es) (sym put_partition)
-      (traced-more ps (map entries hs) ts p (entries h) t traces trace))
+  pub missing-here : (ps : List QueuePass) (hs : List H) (ts : List PlainPartition) (missing : ℕ) (p : QueuePass) → AreTraces ps (map entries hs) ts → IsMissing p missing → IsMissingFirst (length hs) missing (ps ++ p ∷ [])
+  missing-here [] [] [] missing p traces lost = (lost, tt)
+  missing-here (x ∷ ps) (h ∷ hs) (t ∷ ts) missing p traces lost = (record { history = entries h; partition = t; trace = traces.0 }, missing-here ps hs ts missing p traces.1 lost)
+  missing-here _ _ _ missing p traces lost = absurd traces
 
-  pub stored-missing : (ps : List QueuePass) (hs : List H) (ts : List PlainPartition) (queue missing : ℕ) (p : QueuePass) → queue ≡ length hs → AreTraces ps (map entries hs) ts → IsMissing p missing
-      → IsMissingFirst queue missing (ps ++ p ∷ [])
-  stored-missing ps hs ts queue missing p here traces lost =
-      subst (λ n. IsMissingFirst n missing (ps ++ p ∷ [])) (length-map hs entries ∙ sym here) (missing-here ps (map entries hs) ts missing p traces lost)
+  pub traced-more : (ps : List QueuePass) (hs : List H) (ts : List PlainPartition) (p : QueuePass) (h : H) (t : PlainPartition) → AreTraces ps (map entries hs) ts → IsTraceOf p (entries h) t
+      → AreTraces (ps ++ p ∷ []) (map entries (hs ++ h ∷ [])) (ts ++ t ∷ [])
+  traced-more [] [] [] p h t traces trace = (trace, tt)
+  traced-more (x ∷ ps) (y ∷ hs) (z ∷ ts) p h t traces trace = (traces.0, traced-more ps hs ts p h t traces.1 trace)
+  traced-more _ _ _ p h t traces trace = absurd traces
 
-module _ {H : Type 0} (entries : H → List (Entry Op Reply)) where
   -- what came of closing one more queue
   abbrev pub Extends : Closing H → End H → Result (Closing H) AllocError → Type 0
   Extends so_far last result =

@@ -29,4 +29,4 @@ returns-clause-asks g c =
     let past = c.loop-queue-test.false in
     let end = c.loop-queue.auto.queue-end in
     let len = c.queues-queue-end.ensures in
-    quiet-all c.loop-queue.queue c.args.caller.now c.loop-queue.caller (first_of (omega (arith, end, len), search rules, grind (arith, common_steps))) (first_of (omega (arith, past, len), search rules, grind (arith, common_steps))) c.loop-queue.invariant.quiet
+    quiet-all c.loop-queue.queue c.args.caller.now c.loop-queue.caller (first_of (omega (arith, past, end, len), search rules, grind (arith, common_steps))) c.loop-queue.invariant.quiet

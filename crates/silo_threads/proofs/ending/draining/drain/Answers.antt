@@ -12,35 +12,33 @@ use Rattle.silo_threads.proofs.ending.draining.drain.Goals as goal
 pub loop-look-init : goal.loop-look-init
 loop-look-init g c = record { none = zip-refl ProducesNone none-refl c.args.caller.now; at = refl; vain = refl }
 
-pub returns-in-Ok-All-clause-none : goal.returns-in-Ok-All-clause-none
-returns-in-Ok-All-clause-none g c = looks-none c.args.caller.now c.loop-look.caller c.ask_quiet.new.caller c.ask_quiet.result c.loop-look.invariant.none c.ask_quiet.ensures.asks
-
-pub returns-in-Ok-All-clause-ends : goal.returns-in-Ok-All-clause-ends
-returns-in-Ok-All-clause-ends g c =
+pub returns-in-Ok-All : goal.returns-in-Ok-All
+returns-in-Ok-All g c =
     let below = c.loop-look-test.true in
-    last-look c.args.looks c.loop-look.look (Ok All) c.args.caller.now c.loop-look.caller c.ask_quiet.new.caller (omega (arith, below)) c.loop-look.invariant.vain
-    (subst (λ (end : Quiet). AsksQuiet c.loop-look.caller (Ok end) c.ask_quiet.new.caller) c.in-Ok-All.field-0-is c.in-Ok-All.ensures.asks)
+    let looked = last-look c.args.looks c.loop-look.look (Ok All) c.args.caller.now c.loop-look.caller c.ask_quiet.new.caller (omega (arith, below)) c.loop-look.invariant.none c.loop-look.invariant.vain
+    (subst (λ (end : Quiet). AsksQuiet c.loop-look.caller (Ok end) c.ask_quiet.new.caller) c.in-Ok-All.field-0-is c.in-Ok-All.ensures.asks) in
+    record { none = looked.0; ends = looked.2; on = looked.1; turnstiles = c.ask_quiet.ensures.turnstiles ∙ c.loop-look.invariant.at }
 
-pub returns-in-Ok-All-clause-on : goal.returns-in-Ok-All-clause-on
-returns-in-Ok-All-clause-on g c = none-on c.args.caller.now c.ask_quiet.new.caller (looks-none c.args.caller.now c.loop-look.caller c.ask_quiet.new.caller c.ask_quiet.result c.loop-look.invariant.none c.ask_quiet.ensures.asks)
+pub returns-in-Err-HistoryFull : goal.returns-in-Err-HistoryFull
+returns-in-Err-HistoryFull g c =
+    let below = c.loop-look-test.true in
+    let looked = last-look c.args.looks c.loop-look.look (Err HistoryFull) c.args.caller.now c.loop-look.caller c.ask_quiet.new.caller (omega (arith, below)) c.loop-look.invariant.none c.loop-look.invariant.vain
+    (subst (λ (e : Refusal). AsksQuiet c.loop-look.caller (Err e) c.ask_quiet.new.caller) c.in-Err-HistoryFull.field-0-is c.in-Err-HistoryFull.ensures.asks) in
+    record { none = looked.0; ends = looked.2; on = looked.1; turnstiles = c.ask_quiet.ensures.turnstiles ∙ c.loop-look.invariant.at }
 
-pub returns-in-Err-HistoryFull-clause-none : goal.returns-in-Err-HistoryFull-clause-none
-returns-in-Err-HistoryFull-clause-none g c = looks-none c.args.caller.now c.loop-look.caller c.ask_quiet.new.caller c.ask_quiet.result c.loop-look.invariant.none c.ask_quiet.ensures.asks
+pub returns-in-Err-Memory : goal.returns-in-Err-Memory
+returns-in-Err-Memory g c =
+    let below = c.loop-look-test.true in
+    let looked = last-look c.args.looks c.loop-look.look (Err Memory) c.args.caller.now c.loop-look.caller c.ask_quiet.new.caller (omega (arith, below)) c.loop-look.invariant.none c.loop-look.invariant.vain
+    (subst (λ (e : Refusal). AsksQuiet c.loop-look.caller (Err e) c.ask_quiet.new.caller) c.in-Err-Memory.field-0-is c.in-Err-Memory.ensures.asks) in
+    record { none = looked.0; ends = looked.2; on = looked.1; turnstiles = c.ask_quiet.ensures.turnstiles ∙ c.loop-look.invariant.at }
 
-pub returns-in-Err-HistoryFull-clause-on : goal.returns-in-Err-HistoryFull-clause-on
-returns-in-Err-HistoryFull-clause-on g c = none-on c.args.caller.now c.ask_quiet.new.caller (looks-none c.args.caller.now c.loop-look.caller c.ask_quiet.new.caller c.ask_quiet.result c.loop-look.invariant.none c.ask_quiet.ensures.asks)
-
-pub returns-in-Err-Memory-clause-none : goal.returns-in-Err-Memory-clause-none
-returns-in-Err-Memory-clause-none g c = looks-none c.args.caller.now c.loop-look.caller c.ask_quiet.new.caller c.ask_quiet.result c.loop-look.invariant.none c.ask_quiet.ensures.asks
-
-pub returns-in-Err-Memory-clause-on : goal.returns-in-Err-Memory-clause-on
-returns-in-Err-Memory-clause-on g c = none-on c.args.caller.now c.ask_quiet.new.caller (looks-none c.args.caller.now c.loop-look.caller c.ask_quiet.new.caller c.ask_quiet.result c.loop-look.invariant.none c.ask_quiet.ensures.asks)
-
-pub returns-then-has_ended-clause-none : goal.returns-then-has_ended-clause-none
-returns-then-has_ended-clause-none g c = looks-none c.args.caller.now c.loop-look.caller c.ask_quiet.new.caller c.ask_quiet.result c.loop-look.invariant.none c.ask_quiet.ensures.asks
-
-pub returns-then-has_ended-clause-on : goal.returns-then-has_ended-clause-on
-returns-then-has_ended-clause-on g c = none-on c.args.caller.now c.ask_quiet.new.caller (looks-none c.args.caller.now c.loop-look.caller c.ask_quiet.new.caller c.ask_quiet.result c.loop-look.invariant.none c.ask_quiet.ensures.asks)
+pub returns-then-has_ended : goal.returns-then-has_ended
+returns-then-has_ended g c =
+    let below = c.loop-look-test.true in
+    let none = looks-none c.args.caller.now c.loop-look.caller c.ask_quiet.new.caller c.ask_quiet.result c.loop-look.invariant.none c.ask_quiet.ensures.asks in
+    let vain = vain-more c.loop-look.look c.in-Ok-NotQuiet.field-0-0 c.in-Ok-NotQuiet.field-0-1 c.in-Ok-NotQuiet.field-0 c.args.caller.now c.loop-look.caller c.ask_quiet.new.caller c.in-Ok-NotQuiet.field-0-is c.loop-look.invariant.vain c.in-Ok-NotQuiet.ensures.asks in
+    record { none = none; ends = (c.loop-look.look + 1, omega arith, omega (arith, below), vain); on = none-on c.args.caller.now c.ask_quiet.new.caller none; turnstiles = c.ask_quiet.ensures.turnstiles ∙ c.loop-look.invariant.at }
 
 pub loop-look-preserved : goal.loop-look-preserved
 loop-look-preserved g c =
@@ -50,36 +48,14 @@ loop-look-preserved g c =
       vain = vain-more c.loop-look.look c.in-Ok-NotQuiet.field-0-0 c.in-Ok-NotQuiet.field-0-1 c.in-Ok-NotQuiet.field-0 c.args.caller.now c.loop-look.caller c.ask_quiet.new.caller c.in-Ok-NotQuiet.field-0-is c.loop-look.invariant.vain c.in-Ok-NotQuiet.ensures.asks;
     }
 
-pub returns-clause-none : goal.returns-clause-none
-returns-clause-none g c = c.loop-look.invariant.none
-
-pub returns-clause-on : goal.returns-clause-on
-returns-clause-on g c = none-on c.args.caller.now c.loop-look.caller c.loop-look.invariant.none
-
-pub returns-in-Err-HistoryFull-clause-ends : goal.returns-in-Err-HistoryFull-clause-ends
-returns-in-Err-HistoryFull-clause-ends g c =
-    let below = c.loop-look-test.true in
-    last-look c.args.looks c.loop-look.look (Err HistoryFull) c.args.caller.now c.loop-look.caller c.ask_quiet.new.caller (omega (arith, below)) c.loop-look.invariant.vain
-    (subst (λ (e : Refusal). AsksQuiet c.loop-look.caller (Err e) c.ask_quiet.new.caller) c.in-Err-HistoryFull.field-0-is c.in-Err-HistoryFull.ensures.asks)
-
-pub returns-in-Err-Memory-clause-ends : goal.returns-in-Err-Memory-clause-ends
-returns-in-Err-Memory-clause-ends g c =
-    let below = c.loop-look-test.true in
-    last-look c.args.looks c.loop-look.look (Err Memory) c.args.caller.now c.loop-look.caller c.ask_quiet.new.caller (omega (arith, below)) c.loop-look.invariant.vain
-    (subst (λ (e : Refusal). AsksQuiet c.loop-look.caller (Err e) c.ask_quiet.new.caller) c.in-Err-Memory.field-0-is c.in-Err-Memory.ensures.asks)
-
-pub returns-then-has_ended-clause-ends : goal.returns-then-has_ended-clause-ends
-returns-then-has_ended-clause-ends g c =
-    let below = c.loop-look-test.true in (
-      c.loop-look.look + 1,
-      omega arith,
-      omega (arith, below),
-      vain-more c.loop-look.look c.in-Ok-NotQuiet.field-0-0 c.in-Ok-NotQuiet.field-0-1 c.in-Ok-NotQuiet.field-0 c.args.caller.now c.loop-look.caller c.ask_quiet.new.caller c.in-Ok-NotQuiet.field-0-is c.loop-look.invariant.vain c.in-Ok-NotQuiet.ensures.asks,
-    )
-
-pub returns-clause-ends : goal.returns-clause-ends
-returns-clause-ends g c =
+pub returns : goal.returns
+returns g c =
     let past = c.loop-look-test.false in
     let end = c.loop-look.auto.look-end in
     let same : c.loop-look.look ≡ c.args.looks = first_of (omega (arith, past, end), search rules, grind (arith, common_steps)) in
-    subst (λ (looks : ℕ). LooksInVain looks c.args.caller.now c.loop-look.caller) same c.loop-look.invariant.vain
+    record {
+      none = c.loop-look.invariant.none;
+      ends = subst (λ (looks : ℕ). LooksInVain looks c.args.caller.now c.loop-look.caller) same c.loop-look.invariant.vain;
+      on = none-on c.args.caller.now c.loop-look.caller c.loop-look.invariant.none;
+      turnstiles = c.loop-look.invariant.at;
+    }

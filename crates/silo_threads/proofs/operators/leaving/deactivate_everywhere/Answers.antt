@@ -1,4 +1,4 @@
-use Rattle.silo_threads.proofs.Prelude.{goes-length, ◌<◌, arith, length, refl, rules, set, common_steps}
+use Rattle.silo_threads.proofs.Prelude.{goes-length, ◌<◌, arith, length, rules, set, common_steps}
 use Rattle.silo_threads.specs.declared.operators.halt.Halt.{Halt}
 use Rattle.silo_threads.specs.Changes.{HasFoundOne}
 use Rattle.silo_threads.proofs.Making.{passed-on}
@@ -13,8 +13,8 @@ loop-queue-preserved g c =
     let below = c.loop-queue-test.true in
     let len = c.len-queue-end.ensures in
     let long = goes-length _ _ c.loop-queue.invariant.on in
-    since-more _ c.args.lines.now.items c.loop-queue.lines.items _ c.loop-queue.queue c.index_mut-line.result.now c.deactivate.new.line (first_of (omega (arith, below, len, long), search rules, grind (arith, common_steps))) c.index_mut-line.ensures.value
-    c.deactivate.ensures.on (c.in_ok-deactivate.ensures.nowhere, c.in_ok-deactivate.ensures.done) refl c.loop-queue.invariant
+    since-more _ c.args.lines.now.items c.loop-queue.lines.items c.loop-queue.queue c.index_mut-line.result.now c.deactivate.new.line (first_of (omega (arith, below, len, long), search rules, grind (arith, common_steps))) c.index_mut-line.ensures.value
+    c.deactivate.ensures.on (c.in_ok-deactivate.ensures.nowhere, c.in_ok-deactivate.ensures.done) c.loop-queue.invariant
 
 pub returns-in_err-deactivate : goal.returns-in_err-deactivate
 returns-in_err-deactivate g c =
@@ -27,10 +27,10 @@ returns-in_err-deactivate g c =
     let fresh = set lines at c.deactivate.new.line in
     let why = c.in_err-deactivate.field-0.0 in
     record {
-      on = since-on _ c.args.lines.now.items lines _ at c.index_mut-line.result.now c.deactivate.new.line within c.index_mut-line.ensures.value c.deactivate.ensures.on refl c.loop-queue.invariant;
+      on = since-on _ c.args.lines.now.items lines at c.index_mut-line.result.now c.deactivate.new.line within c.index_mut-line.ensures.value c.deactivate.ensures.on c.loop-queue.invariant;
       nowhere = search rules;
       done = search rules;
-      found = passed-on (λ (h : Halt). HasFoundOne h fresh) c.from_residual.result why c.from_residual.ensures.1 (found-at why lines fresh at c.deactivate.new.line within refl c.in_err-deactivate.ensures.found);
+      found = passed-on (λ (h : Halt). HasFoundOne h fresh) c.from_residual.result why c.from_residual.ensures.1 (found-at why lines at c.deactivate.new.line within c.in_err-deactivate.ensures.found);
     }
 
 pub returns : goal.returns

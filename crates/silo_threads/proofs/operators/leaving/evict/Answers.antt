@@ -1,13 +1,14 @@
 use Rattle.silo_threads.proofs.Prelude.{goes-refl, goes-trans, on-refl, on-trans, Ok, inr, subst}
+use Rattle.silo_loops.proofs.Going.{silents-refl}
 use Rattle.silo_threads.specs.declared.operators.halt.Halt.{Halt}
-use Rattle.silo_threads.specs.Changes.{HoldsGrains, Releases}
+use Rattle.silo_threads.specs.Changes.{HoldsGrains, IsNoneLeft, IsRelease, Releases}
 use Rattle.silo_threads.specs.declared.operators.leaving.Release.{Release}
-use Rattle.silo_threads.proofs.Making.{passed-on}
-use Rattle.silo_threads.proofs.Changing.{all-gone, holds-refused, none-gone, none-none, none-released, nowhere-none, nowhere-trans, one-gone, released-on}
+use Rattle.silo_threads.proofs.Making.{made-none, passed-on}
+use Rattle.silo_threads.proofs.Changing.{all-gone, holds-refused, none-released, nowhere-silents, nowhere-trans, one-gone, released-on}
 use Rattle.silo_threads.proofs.operators.leaving.evict.Goals as goal
 
 pub loop-init : goal.loop-init
-loop-init g c = record { on = goes-refl c.args.lines.now.items; directory = on-refl c.args.directory.now; nowhere = nowhere-none c.args.lines.now.items; deactivated = none-gone c.args.silo c.args.directory.now c.args.lines.now.items; none = none-none c.args.silo c.args.directory.now }
+loop-init g c = record { on = goes-refl c.args.lines.now.items; directory = on-refl c.args.directory.now; nowhere = nowhere-silents c.args.lines.now.items c.args.lines.now.items (silents-refl c.args.lines.now.items); deactivated = λ grain made. absurd (made-none (IsRelease c.args.silo grain) c.args.directory.now made); none = made-none (IsNoneLeft c.args.silo) c.args.directory.now }
 
 pub loop-preserved : goal.loop-preserved
 loop-preserved g c =

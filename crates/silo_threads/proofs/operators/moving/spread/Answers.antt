@@ -1,4 +1,4 @@
-use Rattle.silo_threads.proofs.Prelude.{goes-length, ◌<◌, arith, length, refl, rules, set, common_steps}
+use Rattle.silo_threads.proofs.Prelude.{goes-length, ◌<◌, arith, length, rules, set, common_steps}
 use Rattle.silo_threads.specs.declared.operators.halt.Halt.{Halt}
 use Rattle.silo_threads.specs.Changes.{StaysBehind}
 use Rattle.silo_threads.proofs.Changing.{behind-at, seen-refl, seen-set, since-all, since-more, since-next, since-none, since-on}
@@ -22,7 +22,7 @@ loop-queue-preserved g c =
     let within : c.loop-queue.queue < length c.loop-queue.lines.items = omega (arith, below, len, long) in
     let line = c.index_mut-line.result.now in
     record {
-      since = since-more _ c.args.lines.now.items c.loop-queue.lines.items _ c.loop-queue.queue line c.move_queue.new.line within c.index_mut-line.ensures.value c.move_queue.ensures.on c.in_ok-move_queue.ensures.moved refl c.loop-queue.invariant.since;
+      since = since-more _ c.args.lines.now.items c.loop-queue.lines.items c.loop-queue.queue line c.move_queue.new.line within c.index_mut-line.ensures.value c.move_queue.ensures.on c.in_ok-move_queue.ensures.moved c.loop-queue.invariant.since;
       seen = seen-set c.args.lines.now.items c.loop-queue.lines.items c.loop-queue.queue line c.move_queue.new.line within c.index_mut-line.ensures.value c.move_queue.ensures.seen c.loop-queue.invariant.seen;
     }
 
@@ -42,13 +42,13 @@ returns-in_err-move_queue g c =
     let why = c.in_err-move_queue.field-0.0 in
     let unmoved = c.in_err-move_queue.ensures.unmoved in
     record {
-      on = since-on _ old lines _ at line moved within read c.move_queue.ensures.on refl since;
+      on = since-on _ old lines at line moved within read c.move_queue.ensures.on since;
       seen = seen-set old lines at line moved within read c.move_queue.ensures.seen c.loop-queue.invariant.seen;
       moved = search rules;
       stayed = search rules;
       behind =
           passed-on (λ (h : Halt). StaysBehind h old (set lines at moved) c.args.old.now c.args.new.now) c.from_residual.result why c.from_residual.ensures.1
-          (behind-at why old lines (set lines at moved) c.args.old.now c.args.new.now at line moved within (since-next _ old lines at line within read since) refl unmoved.0 unmoved.1);
+          (behind-at why old lines c.args.old.now c.args.new.now at line moved within (since-next _ old lines at line within read since) unmoved.0 unmoved.1);
     }
 
 pub returns : goal.returns

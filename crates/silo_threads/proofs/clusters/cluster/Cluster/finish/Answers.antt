@@ -1,4 +1,4 @@
-use Rattle.silo_threads.proofs.Prelude.{LineView, GoOn, GoesOn, HasRun, List, Ok, ap, subst, sym, AllZip}
+use Rattle.silo_threads.proofs.Prelude.{LineView, GoOn, GoesOn, HasRun, List, Ok, subst, sym, AllZip}
 use Rattle.turnstile.specs.Recorded.{recorded}
 use Rattle.silo_threads.specs.Clusters.{AreFresh, ClusterView, HaveEnded}
 use Rattle.silo_threads.proofs.Standing.{callers-on, finished-whole}
@@ -6,15 +6,13 @@ use Rattle.silo_threads.proofs.clusters.cluster.Cluster.finish.Goals as goal
 
 pub finish-requires-after_bounds : goal.finish-requires-after_bounds
 finish-requires-after_bounds g c κs within =
-    let lines = ap (λ (v : ClusterView). v.operator.lines) c.self.view_is in
-    let on = subst (λ (ls : List LineView). GoOn ls c.stop_all-loops.new.operator.lines) lines c.stop_all-loops.ensures.only.on.lines in
+    let on = subst (λ (v : ClusterView). GoOn v.operator.lines c.stop_all-loops.new.operator.lines) c.self.view_is c.stop_all-loops.ensures.only.on.lines in
     let whole = subst (λ (ls : List LineView). GoOn c.args.self.operator.lines ls) (sym c.into_lines-doorbell.ensures) on in
     callers-on c.args.self.operator.lines c.into_lines-doorbell.result.1.items c.args.callers.items whole c.requires
 
 pub returns : goal.returns
 returns g c =
-    let lines = ap (λ (v : ClusterView). v.operator.lines) c.self.view_is in
-    let on = subst (λ (ls : List LineView). GoOn ls c.stop_all-loops.new.operator.lines) lines c.stop_all-loops.ensures.only.on.lines in
+    let on = subst (λ (v : ClusterView). GoOn v.operator.lines c.stop_all-loops.new.operator.lines) c.self.view_is c.stop_all-loops.ensures.only.on.lines in
     let whole = subst (λ (ls : List LineView). GoOn c.args.self.operator.lines ls) (sym c.into_lines-doorbell.ensures) on in
     let back = recorded c.stop_all-loops.result.1 in
     let fresh = subst (λ (v : ClusterView). AreFresh v.rounds v.silos) c.self.view_is c.self.invariant.fresh in

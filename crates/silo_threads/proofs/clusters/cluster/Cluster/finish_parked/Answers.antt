@@ -1,4 +1,4 @@
-use Rattle.silo_threads.proofs.Prelude.{LineView, GoOn, GoesOn, List, ap, subst, sym, ◌≡◌, AllByRecursion}
+use Rattle.silo_threads.proofs.Prelude.{LineView, GoOn, GoesOn, List, subst, sym, ◌≡◌, AllByRecursion}
 use Rattle.silo_threads.specs.Clusters.{ClusterView, HaveComeBack, RunsOn, all_noted}
 use Rattle.silo_threads.proofs.Standing.{callers-on, finished-whole}
 use Rattle.silo_threads.proofs.clusters.cluster.Cluster.finish_parked.Goals as goal
@@ -8,15 +8,13 @@ take_all_back-ends-requires-after_bounds g c κs within = subst (λ (v : Cluster
 
 pub finish-requires-after_bounds : goal.finish-requires-after_bounds
 finish-requires-after_bounds g c κs within =
-    let lines = ap (λ (v : ClusterView). v.operator.lines) c.self.view_is in
-    let on = subst (λ (ls : List LineView). GoOn ls c.take_all_back-ends.new.operator.lines) lines c.take_all_back-ends.ensures.only.on.lines in
+    let on = subst (λ (v : ClusterView). GoOn v.operator.lines c.take_all_back-ends.new.operator.lines) c.self.view_is c.take_all_back-ends.ensures.only.on.lines in
     let whole = subst (λ (ls : List LineView). GoOn c.args.self.operator.lines ls) (sym c.into_lines-doorbell.ensures) on in
     callers-on c.args.self.operator.lines c.into_lines-doorbell.result.1.items c.args.callers.items whole c.requires.callers
 
 pub returns : goal.returns
 returns g c =
-    let lines = ap (λ (v : ClusterView). v.operator.lines) c.self.view_is in
-    let on = subst (λ (ls : List LineView). GoOn ls c.take_all_back-ends.new.operator.lines) lines c.take_all_back-ends.ensures.only.on.lines in
+    let on = subst (λ (v : ClusterView). GoOn v.operator.lines c.take_all_back-ends.new.operator.lines) c.self.view_is c.take_all_back-ends.ensures.only.on.lines in
     let whole = subst (λ (ls : List LineView). GoOn c.args.self.operator.lines ls) (sym c.into_lines-doorbell.ensures) on in
     let ended = subst (λ (v : ClusterView). c.take_all_back-ends.result ≡ all_noted v.ends c.args.loops.items) c.self.view_is c.take_all_back-ends.ensures.ends in
     let asks = subst (λ (v : ClusterView). GoesOn v.operator.directory c.take_all_back-ends.new.operator.directory) c.self.view_is c.take_all_back-ends.ensures.only.on.directory in

@@ -1,7 +1,8 @@
-use Rattle.silo_threads.proofs.Prelude.{goes-length, goes-some, ◌∙◌, IfErr, OnOk, subst, sym}
+use Rattle.silo_threads.proofs.Prelude.{IfErr, OnOk, subst}
 use Rattle.silo_threads.specs.declared.operators.halt.Halt.{Halt}
 use Rattle.silo_threads.specs.Changes.{AreDeactivated, HaveMovedNowhere, HoldsGrains}
 use Rattle.silo_threads.specs.Operators.{OperatorView}
+use Rattle.silo_threads.proofs.Spreading.{operator-on}
 use Rattle.silo_threads.proofs.operators.operator.Operator.evict.Goals as goal
 
 pub returns-clause-deactivated : goal.returns-clause-deactivated
@@ -9,12 +10,7 @@ returns-clause-deactivated g c =
     subst (λ (v : OperatorView). OnOk c.evict.result (AreDeactivated c.args.silo v.directory c.evict.new.directory v.lines c.evict.new.lines.items)) c.self.view_is c.evict.ensures.deactivated
 
 pub invariant_of-self : goal.invariant_of-self
-invariant_of-self g c =
-    record {
-      some = goes-some c.self.inside.lines.items c.evict.new.lines.items c.evict.ensures.on c.self.invariant.some;
-      assigned = c.self.invariant.assigned ∙ sym (goes-length c.self.inside.lines.items c.evict.new.lines.items c.evict.ensures.on);
-      once = c.self.invariant.once;
-    }
+invariant_of-self g c = operator-on _ c.evict.new.lines.items c.evict.new.directory c.self.invariant c.evict.ensures.on
 
 pub returns-clause-holds : goal.returns-clause-holds
 returns-clause-holds g c =

@@ -1,18 +1,13 @@
-use Rattle.silo_threads.proofs.Prelude.{goes-length, goes-some, silent-refl, AreSplitOff, ◌≡◌, ◌∙◌, IfOk, OnOk, subst, sym, on_ok_weaker}
+use Rattle.silo_threads.proofs.Prelude.{silent-refl, AreSplitOff, ◌≡◌, IfOk, OnOk, subst, on_ok_weaker}
 use Rattle.silo_threads.specs.Operators.{OperatorView}
-use Rattle.silo_threads.proofs.Spreading.{only-refl, same-passes}
+use Rattle.silo_threads.proofs.Spreading.{only-refl, operator-on, same-passes}
 use Rattle.silo_threads.proofs.operators.operator.Operator.make_loops.Goals as goal
 
 pub returns-in_err-tools-clause-only : goal.returns-in_err-tools-clause-only
 returns-in_err-tools-clause-only g c = only-refl c.args.self.now
 
 pub invariant_of-self : goal.invariant_of-self
-invariant_of-self g c =
-    record {
-      some = goes-some c.self.inside.lines.items c.new.new.lines.items c.new.ensures.go_on c.self.invariant.some;
-      assigned = c.self.invariant.assigned ∙ sym (goes-length c.self.inside.lines.items c.new.new.lines.items c.new.ensures.go_on);
-      once = c.self.invariant.once;
-    }
+invariant_of-self g c = operator-on _ c.new.new.lines.items c.new.new.directory c.self.invariant c.new.ensures.go_on
 
 pub returns-in_err-tools-clause-silent : goal.returns-in_err-tools-clause-silent
 returns-in_err-tools-clause-silent g c = silent-refl c.args.self.now.directory
