@@ -1,7 +1,6 @@
 -- A line that asks at one queue or at each.
-use Rattle.script_runs.proofs.Prelude.{QueuePass, called-on, gone-refl, all-at, zip-at, zip-refl, CallerCalls, QueueCalls, HasGoneOn, ◌≡◌, ◌≢◌, ◌⊎◌, ℕ, zero, suc, ◌+◌, ◌<◌, ◌≤◌, inl, inr, true, if◌then◌else◌, List, [], ◌∷◌, ◌++◌, length, Some, None, Result, Ok, Err, IfOk, refl, sym, ap, subst, ◌∙◌, add-one, arith, eq-eqb, AllByRecursion, AllZip, slice_get, slice_set, AllocError, is_producer, Reply, Op, op_of, EachOp, Refusal, HistoryFull, Memory}
+use Rattle.script_runs.proofs.Prelude.{IsErrAnd, QueuePass, called-on, gone-refl, all-at, zip-at, zip-refl, CallerCalls, QueueCalls, HasGoneOn, ◌≡◌, ◌≢◌, ◌⊎◌, ℕ, zero, suc, ◌+◌, ◌<◌, ◌≤◌, inl, inr, true, if◌then◌else◌, List, [], ◌∷◌, ◌++◌, length, Some, None, Result, Ok, Err, IfOk, refl, sym, ap, subst, ◌∙◌, add-one, arith, eq-eqb, AllByRecursion, AllZip, slice_get, slice_set, AllocError, is_producer, Reply, Op, op_of, EachOp, Refusal, HistoryFull, Memory}
 use Rattle.std.proofs.lemmas.Bool.Decides.{eqb_tells}
-use Rattle.std.specs.Result.{IsErrAnd}
 use Rattle.stream_script.specs.declared.parser.command.Command.TheVariants as command
 use Rattle.stream_script.specs.declared.parser.command.EachOp.TheVariants as each
 use Rattle.script_runs.specs.declared.reader.line.Line.{Line}
@@ -200,19 +199,16 @@ once-refused asked op (Ok a) e queue old now new is front err once = absurd err
 once-refused asked op (Err y) e queue old now new is front err once =
     subst (λ (z : AllocError). AsksUpTo old asked (Err z) new) (sym err) (last-asked asked op (Err e) queue old now new is front once)
 
--- calls that have met no limit
-each-free : (op : Op) (a : Answer) (old new : List QueuePass) → a ≢ answer.Limit → AllZip (IsAsked op) old new → AsksEachOnce old op (Ok a) new
-each-free op answer.Limit old new free all = absurd (free refl)
-each-free op a old new free all = all
-
 -- so the calls end at once where one meets a limit or fails to allocate
 pub once-ends : (op : Op) (result : Result Answer AllocError) (old new : List QueuePass) → is_producer op ≡ true → AsksEachOnce old op result new → EndsAsking old op result new
 once-ends op (Ok answer.Limit) old new produces once = upto-last op (Ok answer.Limit) old new produces once
 once-ends op (Ok a) old new produces once = tt
 once-ends op (Err e) old new produces once = upto-last op (Err e) old new produces once
 
+-- calls that have met no limit
 pub once-free : (first : Answer) (op : Op) (queue : ℕ) (old new : List QueuePass) → length old ≤ queue → first ≢ answer.Limit → AreAskedBefore queue op old new → AsksEachOnce old op (Ok first) new
-once-free first op queue old new long free front = each-free op first old new free (asked-all op queue old new long front)
+once-free answer.Limit op queue old new long free front = absurd (free refl)
+once-free first op queue old new long free front = asked-all op queue old new long front
 
 -- what the line prints is what the first queue says
 first-printed : (first : Answer) (op : Op) (old new : List QueuePass) (number : ℕ) (missed : List ℕ) (lines : List Line) → is_producer op ≡ true → IsFirstAnswer first op old new → AllByRecursion BeginsEmpty old → AloneProduces new

@@ -9,13 +9,14 @@ pub use Rattle.silo_threads.specs.Calls.{CallerCalls, IsUnused, QueueCalls, join
 pub use Rattle.silo_threads.specs.Clusters.{AnswersDown, AnswersUp, AreAtQueues, ClusterView, HasFinished, IsAtQueue, IsConfig, IsDown, IsNew, IsUp, MayGo, is_fixed}
 pub use Rattle.silo_threads.specs.Draining.{HasGoneOn, Looks, LooksAWhile, LooksInVain, LooksQuiet, ProducesNone}
 pub use Rattle.silo_threads.specs.Operators.{OperatorGoesOn}
-pub use Rattle.std.proofs.Common.{Bool, Contains, Err, IfErr, IfOk, List, None, Ok, OnErr, Option, Result, Some, [], add-one, ap, append_assoc, arith, drop, false, filter, fold, get_or, if◌then◌else◌, inl, inr, is_some, length, length-append, map, min, nat_le, nat_lt, not, option_map, refl, remove, reverse, rules, subst, suc, sym, take, true, zero, zip, ℕ, ◌&&◌, ◌*◌, ◌++◌, ◌+◌, ◌-◌, ◌<◌, ◌==◌, ◌||◌, ◌∙◌, ◌∷◌, ◌≡◌, ◌≢◌, ◌≤◌, ◌⊎◌}
+pub use Rattle.std.proofs.Common.{Bool, Contains, Err, IfErr, IfOk, List, None, Ok, Option, Result, Some, [], add-one, ap, append_assoc, arith, drop, false, filter, fold, get_or, if◌then◌else◌, inl, inr, is_some, length, length-append, map, min, nat_le, nat_lt, not, option_map, refl, remove, reverse, rules, subst, suc, sym, take, true, zero, zip, ℕ, ◌&&◌, ◌*◌, ◌++◌, ◌+◌, ◌-◌, ◌<◌, ◌==◌, ◌||◌, ◌∙◌, ◌∷◌, ◌≡◌, ◌≢◌, ◌≤◌, ◌⊎◌}
 pub use Rattle.std.proofs.lemmas.Bool.{and_from, and_parts, and_right, cond_both, eq-eqb, eqb-true, false≢true, le-leb, lt-leb, lt-ltb, ltb-false, ltb-true, ne_eqb, not-true, or_parts, or_right, true≢false}
 pub use Rattle.std.proofs.lemmas.List.{append-nil, length-map, map-append, map-id, reverse-append, take-append-drop}
 pub use Rattle.std.proofs.lemmas.List.Elements.{filter-append, filter_agree, filter_map-append}
 pub use Rattle.std.proofs.lemmas.Option.{same_Some, slice_get_within}
 pub use Rattle.std.specs.List.{AllByRecursion, AllZip, cons_option, filter_map, flat_map, list_all, list_any, range_with_len}
-pub use Rattle.std.specs.Prelude.{codes, cond, slice_get, slice_set, ◌^◌}
+pub use Rattle.std.specs.Prelude.{OnOk, codes, cond, slice_get, slice_set, ◌^◌}
+pub use Rattle.std.specs.Result.{IsErrAnd}
 pub use Rattle.std.specs.declared.alloc.AllocError.{AllocError}
 pub use Rattle.step_core.specs.Reads.{handled_by, handled_of, is_named_before, summaries_in_order, summaries_of, summary_of}
 pub use Rattle.step_core.specs.declared.reading.SubSummary.{SubSummary}

@@ -1,5 +1,5 @@
 -- The producers' entries alone say what is published, bound, owed and closed, and which subscriptions there are.
-use Rattle.script_runs.proofs.Prelude.{◌≡◌, ◌∙◌, ap, sym, refl, ℕ, suc, Bool, true, false, ◌||◌, not, if◌then◌else◌, length, List, [], ◌∷◌, ◌++◌, map, filter, reverse, Option, option_map, cond_both, map-append, reverse-append, filter-append, cons_option, filter_map, is_named_before, summary_of, SubSummary, Event, SubName, Rule, gives, is_given, Binding, binding_of, is_closed, owed_events, published_events, batches_after, binding_after, closed_after, owed_of, published_after, is_producer, subs_with, Reply, Op, Publish, Subscribe, Unsubscribe, AddRule}
+use Rattle.script_runs.proofs.Prelude.{◌≡◌, ◌∙◌, ap, sym, refl, ℕ, Bool, false, ◌||◌, not, if◌then◌else◌, length, List, [], ◌∷◌, ◌++◌, map, filter, reverse, Option, option_map, cond_both, map-append, reverse-append, filter-append, cons_option, filter_map, is_named_before, summary_of, SubSummary, Event, SubName, Rule, gives, is_given, Binding, binding_of, is_closed, owed_events, published_events, batches_after, binding_after, closed_after, owed_of, published_after, is_producer, subs_with, Reply, Op, Publish, Subscribe, Unsubscribe, AddRule}
 use Rattle.stream_ident.specs.declared.ident.SubName.TheVariants as name
 use Rattle.stream_model.specs.declared.reply.Reply.TheVariants as reply
 use Rattle.stream_model.specs.Draining.{in_order}
@@ -35,51 +35,58 @@ kept-reverse (e ∷ history) =
 
 -- ---- what an entry changes
 
--- It changes the same where of its reply only that stands which a script says, and nothing where it isn't of a producer.
-abbrev SeesProducers : {X : Type 0} → (Op → Reply → X) → X → Op → Reply → Type 0
-SeesProducers after old op told = (after op (told_of told) ≡ after op told) × (is_producer op ≡ false → after op told ≡ old)
+-- what entries say together, the newest first
+record Said : Type 0 where
+  events : List Event
+  batches : ℕ
+  bound : SubName → Option Binding
+  closed : SubName → Bool
+  rules : List Rule
+  subs : List SubSummary
+  made : List Entry
+  given : ℕ → Bool
 
-published-by : (events : List Event) (op : Op) (told : Reply) → SeesProducers (published_after events) events op told
-published-by events (Publish stream payloads) (reply.Published seq) = (refl, λ other. absurd (cc))
-published-by events (Publish stream payloads) told = (refl, λ other. absurd (cc))
-published-by events op told = (refl, λ other. refl)
+-- explicit subscriptions are as the whole history has them
+module _ (history : List Entry) where
+  abbrev said : List Entry → Said
+  said entries =
+      record {
+        events = newest.published_events entries;
+        batches = newest.batch_count entries;
+        bound = λ s. newest.binding_of entries s;
+        closed = λ s. newest.is_closed entries s;
+        rules = rules_of entries;
+        subs = filter_map (λ (e : Entry). explicit_of history e.op e.reply) entries;
+        made = filter (λ (e : Entry). is_subscribed e.op e.reply) entries;
+        given = λ number. is_given entries number;
+      }
 
-batches-by : (n : ℕ) (op : Op) (told : Reply) → SeesProducers (batches_after n) n op told
-batches-by n (Publish stream payloads) (reply.Published seq) = (refl, λ other. absurd (cc))
-batches-by n (Publish stream payloads) told = (refl, λ other. absurd (cc))
-batches-by n op told = (refl, λ other. refl)
+  -- after one more entry
+  abbrev after : Said → Op → Reply → Said
+  after old op told =
+      record {
+        events = published_after old.events op told;
+        batches = batches_after old.batches op told;
+        bound = λ s. binding_after s (old.bound s) old.batches op told;
+        closed = λ s. closed_after s (old.closed s) op told;
+        rules = cons_option (rule_of op told) old.rules;
+        subs = cons_option (explicit_of history op told) old.subs;
+        made = if is_subscribed op told then record { op = op; reply = told } ∷ old.made else old.made;
+        given = λ number. gives number op told || old.given number;
+      }
 
-binding-by : (s : SubName) (old : Option Binding) (n : ℕ) (op : Op) (told : Reply) → SeesProducers (binding_after s old n) old op told
-binding-by s old n (Subscribe stream grain start) (reply.Subscribed number) = (refl, λ other. absurd (cc))
-binding-by s old n (Subscribe stream grain start) told = (refl, λ other. absurd (cc))
-binding-by s old n (AddRule kind namespace) (reply.RuleAdded from) = (refl, λ other. absurd (cc))
-binding-by s old n (AddRule kind namespace) told = (refl, λ other. absurd (cc))
-binding-by s old n op told = (refl, λ other. refl)
-
-closed-by : (s : SubName) (old : Bool) (op : Op) (told : Reply) → SeesProducers (closed_after s old) old op told
-closed-by s old (Unsubscribe sub) (reply.Unsubscribed count) = (refl, λ other. absurd (cc))
-closed-by s old (Unsubscribe sub) told = (refl, λ other. absurd (cc))
-closed-by s old op told = (refl, λ other. refl)
-
-rule-by : (rules : List Rule) (op : Op) (told : Reply) → SeesProducers (λ (op : Op) (told : Reply). cons_option (rule_of op told) rules) rules op told
-rule-by rules (AddRule kind namespace) (reply.RuleAdded from) = (refl, λ other. absurd (cc))
-rule-by rules (AddRule kind namespace) told = (refl, λ other. absurd (cc))
-rule-by rules op told = (refl, λ other. refl)
-
-explicit-by : (history : List Entry) (subs : List SubSummary) (op : Op) (told : Reply) → SeesProducers (λ (op : Op) (told : Reply). cons_option (explicit_of history op told) subs) subs op told
-explicit-by history subs (Subscribe stream grain start) (reply.Subscribed number) = (refl, λ other. absurd (cc))
-explicit-by history subs (Subscribe stream grain start) told = (refl, λ other. absurd (cc))
-explicit-by history subs op told = (refl, λ other. refl)
-
-subscribed-by : (n : ℕ) (op : Op) (told : Reply) → SeesProducers (λ (op : Op) (told : Reply). if is_subscribed op told then suc n else n) n op told
-subscribed-by n (Subscribe stream grain start) (reply.Subscribed number) = (refl, λ other. absurd (cc))
-subscribed-by n (Subscribe stream grain start) told = (refl, λ other. absurd (cc))
-subscribed-by n op told = (refl, λ other. refl)
-
-given-by : (number : ℕ) (given : Bool) (op : Op) (told : Reply) → SeesProducers (λ (op : Op) (told : Reply). gives number op told || given) given op told
-given-by number given (Subscribe stream grain start) (reply.Subscribed gave) = (refl, λ other. absurd (cc))
-given-by number given (Subscribe stream grain start) told = (refl, λ other. absurd (cc))
-given-by number given op told = (refl, λ other. refl)
+  -- It changes the same where of its reply only that stands which a script says, and nothing where it isn't of a producer.
+  seen-by : (before : List Entry) (op : Op) (told : Reply)
+      → (after (said before) op (told_of told) ≡ after (said before) op told) × (is_producer op ≡ false → after (said before) op told ≡ said before)
+  seen-by before (Publish stream payloads) (reply.Published seq) = (refl, λ other. absurd (cc))
+  seen-by before (Publish stream payloads) told = (refl, λ other. absurd (cc))
+  seen-by before (Subscribe stream grain start) (reply.Subscribed number) = (refl, λ other. absurd (cc))
+  seen-by before (Subscribe stream grain start) told = (refl, λ other. absurd (cc))
+  seen-by before (Unsubscribe sub) (reply.Unsubscribed count) = (refl, λ other. absurd (cc))
+  seen-by before (Unsubscribe sub) told = (refl, λ other. absurd (cc))
+  seen-by before (AddRule kind namespace) (reply.RuleAdded from) = (refl, λ other. absurd (cc))
+  seen-by before (AddRule kind namespace) told = (refl, λ other. absurd (cc))
+  seen-by before op told = (refl, λ other. refl)
 
 -- ---- so the producers' entries say the same
 
@@ -91,44 +98,32 @@ kept-cases P e before here others =
     cond_both (is_producer e.op) (e ∷ filter (λ (e : Entry). is_producer e.op) before) (filter (λ (e : Entry). is_producer e.op) before) (λ (entries : List Entry). P (map told_entry entries))
     (λ _. here) others
 
--- what is changed by one entry after another
-module _ {X : Type 0} (F : List Entry → X) (after : X → Op → Reply → X) (step : (e : Entry) (before : List Entry) → F (e ∷ before) ≡ after (F before) e.op e.reply) (sees : (old : X) (op : Op) (told : Reply) → SeesProducers (after old) old op told) where
-  all-kept : (entries : List Entry) → F (producers_entries entries) ≡ F entries
-  all-kept [] = refl
-  all-kept (e ∷ before) =
-      kept-cases (λ (entries : List Entry). F entries ≡ F (e ∷ before)) e before
-      (step (told_entry e) (producers_entries before) ∙ (ap (λ (old : X). after old e.op (told_of e.reply)) (all-kept before) ∙ ((sees (F before) e.op e.reply).0 ∙ sym (step e before))))
-      (λ other. all-kept before ∙ (sym ((sees (F before) e.op e.reply).1 other) ∙ sym (step e before)))
-
-batches-kept : (entries : List Entry) → newest.batch_count (producers_entries entries) ≡ newest.batch_count entries
-batches-kept entries = all-kept newest.batch_count batches_after (λ e before. refl) batches-by entries
-
-binding-kept : (entries : List Entry) (s : SubName) → newest.binding_of (producers_entries entries) s ≡ newest.binding_of entries s
-binding-kept [] s = refl
-binding-kept (e ∷ before) s =
-    let sees = binding-by s (newest.binding_of before s) (newest.batch_count before) e.op e.reply in
-    kept-cases (λ (entries : List Entry). newest.binding_of entries s ≡ newest.binding_of (e ∷ before) s) e before
-    ((λ i. binding_after s (binding-kept before s i) (batches-kept before i) e.op (told_of e.reply)) ∙ sees.0)
-    (λ other. binding-kept before s ∙ sym (sees.1 other))
+all-kept : (history entries : List Entry) → said history (producers_entries entries) ≡ said history entries
+all-kept history [] = refl
+all-kept history (e ∷ before) =
+    let sees = seen-by history before e.op e.reply in
+    kept-cases (λ (entries : List Entry). said history entries ≡ said history (e ∷ before)) e before
+    (ap (λ (old : Said). after history old e.op (told_of e.reply)) (all-kept history before) ∙ sees.0) (λ other. all-kept history before ∙ sym (sees.1 other))
 
 -- ---- and as it is told
 
+newest-kept : (history : List Entry) → said history (reverse (producers_entries history)) ≡ said history (reverse history)
+newest-kept history = ap (said history) (kept-reverse history) ∙ all-kept history (reverse history)
+
 published-same : (history : List Entry) → published_events (producers_entries history) ≡ published_events history
-published-same history = ap newest.published_events (kept-reverse history) ∙ all-kept newest.published_events published_after (λ e before. refl) published-by (reverse history)
+published-same history = ap (λ (t : Said). t.events) (newest-kept history)
 
 binding-same : (history : List Entry) (s : SubName) → binding_of (producers_entries history) s ≡ binding_of history s
-binding-same history s = ap (λ entries. newest.binding_of entries s) (kept-reverse history) ∙ binding-kept (reverse history) s
+binding-same history s = ap (λ (t : Said). t.bound s) (newest-kept history)
 
 closed-same : (history : List Entry) (s : SubName) → is_closed (producers_entries history) s ≡ is_closed history s
-closed-same history s =
-    ap (λ entries. newest.is_closed entries s) (kept-reverse history)
-    ∙ all-kept (λ (entries : List Entry). newest.is_closed entries s) (closed_after s) (λ e before. refl) (closed-by s) (reverse history)
+closed-same history s = ap (λ (t : Said). t.closed s) (newest-kept history)
 
 owed-same : (history : List Entry) (s : SubName) → owed_events (producers_entries history) s ≡ owed_events history s
 owed-same history s = λ i. owed_of (published-same history i) (binding-same history s i)
 
 rules-same : (history : List Entry) → rules_of (producers_entries history) ≡ rules_of history
-rules-same history = all-kept rules_of (λ (rules : List Rule) (op : Op) (told : Reply). cons_option (rule_of op told) rules) (λ e before. refl) rule-by history
+rules-same history = ap (λ (t : Said). t.rules) (all-kept history history)
 
 explicit-alike : (history : List Entry) (op : Op) (told : Reply) → explicit_of (producers_entries history) op told ≡ explicit_of history op told
 explicit-alike history (Subscribe stream grain start) (reply.Subscribed number) = λ i.
@@ -144,8 +139,7 @@ explicit-alike history op told = refl
 explicit-same : (history : List Entry) → explicit_subs (producers_entries history) ≡ explicit_subs history
 explicit-same history =
     (λ i. filter_map (λ (e : Entry). explicit-alike history e.op e.reply i) (producers_entries history))
-    ∙ all-kept (λ (entries : List Entry). filter_map (λ (e : Entry). explicit_of history e.op e.reply) entries) (λ (subs : List SubSummary) (op : Op) (told : Reply). cons_option (explicit_of history op told) subs)
-    (λ e before. refl) (explicit-by history) history
+    ∙ ap (λ (t : Said). t.subs) (all-kept history history)
 
 implicit-same : (history : List Entry) → implicit_subs (producers_entries history) ≡ implicit_subs history
 implicit-same history = λ i. map summary_of (subs_with (rules-same history i) 0 [] (published-same history i))
@@ -154,20 +148,13 @@ subs-same : (history : List Entry) → told_subs (producers_entries history) ≡
 subs-same history = λ i. in_order is_named_before (explicit-same history i ++ implicit-same history i)
 
 pub batches-same : (history : List Entry) → batch_count (producers_entries history) ≡ batch_count history
-batches-same history = ap newest.batch_count (kept-reverse history) ∙ batches-kept (reverse history)
-
-counted : (b : Bool) (e : Entry) (entries : List Entry) → length (if b then e ∷ entries else entries) ≡ (if b then suc (length entries) else length entries)
-counted true e entries = refl
-counted false e entries = refl
+batches-same history = ap (λ (t : Said). t.batches) (newest-kept history)
 
 pub count-same : (history : List Entry) → subscribed_count (producers_entries history) ≡ subscribed_count history
-count-same history =
-    all-kept subscribed_count (λ (n : ℕ) (op : Op) (told : Reply). if is_subscribed op told then suc n else n)
-    (λ e before. counted (is_subscribed e.op e.reply) e (filter (λ (e : Entry). is_subscribed e.op e.reply) before)) subscribed-by history
+count-same history = ap (λ (t : Said). length t.made) (all-kept history history)
 
 pub given-same : (history : List Entry) (number : ℕ) → is_given (producers_entries history) number ≡ is_given history number
-given-same history number =
-    all-kept (λ (entries : List Entry). is_given entries number) (λ (given : Bool) (op : Op) (told : Reply). gives number op told || given) (λ e before. refl) (given-by number) history
+given-same history number = ap (λ (t : Said). t.given number) (all-kept history history)
 
 pub producers-tell : ProducersTell
 producers-tell =

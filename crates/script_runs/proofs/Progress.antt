@@ -1,5 +1,5 @@
 -- How far a script is done.
-use Rattle.script_runs.proofs.Prelude.{owns-foreign, QueuePass, asks-foreign, gone-refl, gone-trans, all-at, zip-refl, zip-trans, met-earlier, op-refl, IsUnused, turnstiles, ClusterView, is_fixed, HasGoneOn, LooksQuiet, OperatorGoesOn, ◌≡◌, ℕ, suc, ◌+◌, ◌<◌, ◌≤◌, inl, inr, true, false, ◌||◌, Contains, List, [], ◌∷◌, ◌++◌, Result, Ok, Err, OnErr, length, get_or, refl, sym, ap, subst, ◌∙◌, arith, append_assoc, ◌==◌, ne_eqb, append-nil, AllByRecursion, AllZip, range_with_len, AllocError, All-push, All-weaken, is_producer, Op, op_of, Command, numbers_of, Refusal, HistoryFull}
+use Rattle.script_runs.proofs.Prelude.{IsErrAnd, owns-foreign, QueuePass, asks-foreign, gone-refl, gone-trans, all-at, zip-refl, zip-trans, met-earlier, op-refl, IsUnused, turnstiles, ClusterView, is_fixed, HasGoneOn, LooksQuiet, OperatorGoesOn, ◌≡◌, ℕ, suc, ◌+◌, ◌<◌, ◌≤◌, inl, inr, true, false, ◌||◌, Contains, List, [], ◌∷◌, ◌++◌, Result, Ok, Err, IfErr, OnOk, length, get_or, refl, sym, ap, subst, ◌∙◌, arith, append_assoc, ◌==◌, ne_eqb, append-nil, AllByRecursion, AllZip, range_with_len, AllocError, All-push, All-weaken, is_producer, Op, op_of, Command, numbers_of, Refusal, HistoryFull}
 use Rattle.std.proofs.lemmas.List.FromFn.{get_or-range_with_len, length-range_with_len}
 use Rattle.std.proofs.lemmas.List.Sums.{fold-append}
 use Rattle.queue_balancer.specs.Balance.{HasNoDoubles}
@@ -21,8 +21,9 @@ use Rattle.script_runs.proofs.Seen.{alone-as, alone-front, none-told}
 use Rattle.script_runs.specs.Scripts.{IsScript, RisesFrom}
 use Rattle.script_runs.specs.declared.runs.line.Stop.{Stop}
 use Rattle.script_runs.specs.declared.runs.line.Stop.TheVariants as stop
-use Rattle.script_runs.specs.Lines.{DoesLine, HasToldFront, MeetsLimit, StaysOpen, StopsBy, TellsInPart, WaitsAWhile, WaitsInVain, WaitsUntil, next_command}
-use Rattle.script_runs.specs.Runs.{DoesAll, IsPrinted, IsUntouched, StopsFront, missed_in, with_printed}
+use Rattle.script_runs.specs.Lines.{DoesLine, HasToldFront, IsUnquiet, MeetsLimit, StaysOpen, StopsBy, TellsInPart, WaitsAWhile, WaitsInVain, WaitsUntil, next_command}
+use Rattle.script_runs.specs.Runs.{DoesAll, DoesFront, EndsLines, IsPrinted, IsUntouched, missed_in, with_printed}
+use Rattle.script_runs.proofs.Doing.{unquiet-stops}
 use Rattle.script_runs.proofs.Fronts.{drain-part, none-left}
 use Rattle.script_runs.proofs.Placing.{all-from}
 
@@ -94,9 +95,6 @@ get-next [] [] x within is = absurd (omega (arith, within))
 get-next [] (y ∷ left) x within is = (left, ap (λ (z : Line). z ∷ left) (sym is))
 get-next (z ∷ xs) left x within is = get-next xs left x (omega (arith, within)) is
 
-rises-of : (last : ℕ) (line : Line) (left rest : List Line) → left ≡ line ∷ rest → RisesFrom last left → (last < line.number) × RisesFrom line.number rest
-rises-of last line left rest is rises = subst (λ (lines : List Line). RisesFrom last lines) is rises
-
 -- ---- how far
 
 pub record Progress (lines : List Line) (v : ClusterView) (old : List QueuePass) (done : List Line) (found : List ScriptLine) (w : ClusterView) (now : List QueuePass) : Type 0 where
@@ -138,51 +136,6 @@ begins queues lines v old is =
       printed = λ silos untouched alone. refl;
     }
 
--- one line more was done
-pub does : (lines : List Line) (v : ClusterView) (old : List QueuePass) (done : List Line) (found : List ScriptLine) (w : ClusterView) (now : List QueuePass) (line : Line) (a : Answer) (more : List ScriptLine) (u : ClusterView) (new : List QueuePass)
-    → Progress lines v old done found w now → length done < length lines → line ≡ get_or lines (length done) line → DoesLine w now line.command a u new
-    → more ≡ found ++ printed_lines a line.number → AllZip HasGoneOn now new → turnstiles new ≡ turnstiles now → OperatorGoesOn w.operator u.operator
-    → Progress lines v old (done ++ line ∷ []) more u new
-does lines v old done found w now line a more u new far within is line_does prints on at cluster =
-    let next = get-next done far.left line (subst (λ (ls : List Line). length done < length ls) far.whole within) (subst (λ (ls : List Line). line ≡ get_or ls (length done) line) far.whole is) in
-    let rises = rises-of far.last line far.left next.0 next.1 far.rises in
-    let number = line.number in
-    let missed = missed_in found in
-    let same : missed_in more ≡ with_missed a number missed = ap (λ (lines : List ScriptLine). missed_in lines) prints ∙ missed-more a number found in
-    let fresh = fresh-number number far.last missed done rises.0 far.below far.missed in
-    record {
-      left = next.0;
-      whole = far.whole ∙ ap (λ (ls : List Line). done ++ ls) next.1 ∙ sym (append_assoc done (line ∷ []) next.0);
-      last = number;
-      rises = rises.1;
-      below = All-push (λ (l : Line). l.number ≤ number) done line (All-weaken (λ (l : Line). l.number ≤ far.last) (λ (l : Line). l.number ≤ number) (λ l less. omega (arith, rises.0, less)) done far.below) (omega arith);
-      missed = subst (λ (numbers : List ℕ). AllByRecursion (λ (m : ℕ). m ≤ number) numbers) (sym same) (missed-up a number far.last missed rises.0 far.missed);
-      on = on-all old now new far.on on;
-      at = at ∙ far.at;
-      cluster = op-trans v.operator w.operator u.operator far.cluster cluster;
-      stays = λ free.
-          let before = far.stays free in
-          let after = line_does.stays before.0 in
-          (after.0, after.1 ∙ before.1);
-      live = λ silos untouched.
-          let was = far.live silos untouched in
-          let is_now = line_does.live was.1 in
-          (is_now.0 ∙ ap (λ (live : List ℕ). live_after live line.command) was.0 ∙ sym (scripts-grow.live silos done line), is_now.1);
-      told = λ silos untouched alone.
-          let before = alone-back now new on alone in
-          subst (λ (numbers : List ℕ). HasTold numbers (done ++ line ∷ []) new) (sym same)
-          (line_does.told (begins-on old now far.on untouched.empty) alone missed done number fresh (far.told silos untouched before));
-      printed = λ silos untouched alone.
-          let before = alone-back now new on alone in
-          let empty = begins-on old now far.on untouched.empty in
-          let has = far.told silos untouched before in
-          prints
-          ∙ (λ i. far.printed silos untouched before i ++ sym (line_does.printed empty alone missed done number fresh has silos (far.live silos untouched).0) i)
-          ∙ (ap (λ (front : List ScriptLine). front ++ command_printed (with_missed a number missed) silos done number line.command) (sym (before-printed a number missed silos done fresh.0))
-          ∙ (sym (scripts-grow.printed (with_missed a number missed) silos done line)
-          ∙ ap (λ (numbers : List ℕ). script_lines numbers silos (done ++ line ∷ [])) (sym same)));
-    }
-
 -- a wait and a call since then are so since what was before
 until-earlier : (looks : ℕ) (result : Result Quiet Refusal) (old now new : List QueuePass) → AllZip HasGoneOn old now → WaitsUntil looks result now new → WaitsUntil looks result old new
 until-earlier looks result old now new on waits = record { before = waits.before; on = on-all old now waits.before on waits.on; ends = waits.ends }
@@ -205,80 +158,132 @@ limit-earlier (command.Up silo) v w u old now new goes same on meets = met-earli
 limit-earlier (command.Down silo) v w u old now new goes same on meets = met-earlier v.operator w.operator u.operator goes meets
 limit-earlier command.Report v w u old now new goes same on meets = absurd meets
 
--- why a line was stopped is why the script is
-pub stops-later : (why : Stop) (asked : Command) (lines : List Line) (v : ClusterView) (old : List QueuePass) (done : List Line) (found : List ScriptLine) (w : ClusterView) (now : List QueuePass) (u : ClusterView) (new : List QueuePass)
-    → is_fixed v ≡ false → Progress lines v old done found w now → StopsBy why asked w now u new → StopsBy why asked v old u new
-stops-later stop.Limit asked lines v old done found w now u new free far stops = limit-earlier asked v w u old now new far.cluster (far.stays free).1 far.on stops
-stops-later stop.NotQuiet asked lines v old done found w now u new free far stops =
-    (stops.0, waits-earlier v.looks old now new far.on (subst (λ n. WaitsInVain n now new) (far.stays free).1 stops.1))
-stops-later stop.RoundLimit asked lines v old done found w now u new free far stops = (stops.0, awhile-earlier v w old now new (far.stays free).1 far.on stops.1)
-stops-later stop.Memory asked lines v old done found w now u new free far stops = tt
+-- ---- what follows of how far
 
--- all lines were done, and then all queues were quiet
-pub done-all : (lines : List Line) (v : ClusterView) (old : List QueuePass) (done : List Line) (found : List ScriptLine) (w : ClusterView) (now new : List QueuePass)
-    → is_fixed v ≡ false → Progress lines v old done found w now → done ≡ lines → AllZip HasGoneOn now new → Tells now command.Drain answer.Taken new → LooksQuiet w.looks now new
-    → DoesAll lines v old found w new
-done-all lines v old done found w now new free far all on tells quiet =
-    let missed = missed_in found in
-    let number = suc far.last in
-    let fresh = fresh-number number far.last missed done (omega arith) far.below far.missed in
-    record {
-      quiet = record { before = now; on = far.on; ends = subst (λ n. LooksQuiet n now new) (far.stays free).1 quiet };
-      printed = λ silos untouched alone. subst (λ (ls : List Line). IsPrinted silos ls found) all (far.printed silos untouched (alone-back now new on alone));
-      told = λ silos untouched alone queue p at.
-          let before = alone-back now new on alone in
-          let told = tells.told (begins-on old now far.on untouched.empty) alone missed done number fresh (far.told silos untouched before) in
-          told queue p at ∙ scripts-grow.told missed queue done (record { number = number; command = command.Drain }) ∙ ap (λ (ls : List Line). script.told missed queue ls) all;
-      live = λ silos untouched. (far.live silos untouched).0 ∙ ap (λ (ls : List Line). live_silos silos ls) all;
-    }
+module _ {lines : List Line} {v : ClusterView} {old : List QueuePass} {done : List Line} {found : List ScriptLine} {w : ClusterView} {now : List QueuePass} (far : Progress lines v old done found w now) where
+  -- what was so before the next line, where it is so now
+  has-told : (new : List QueuePass) → AllZip HasGoneOn now new → (silos : ℕ) → IsUntouched silos v old → AloneProduces new → HasTold (missed_in found) done now
+  has-told new on silos untouched alone = far.told silos untouched (alone-back now new on alone)
 
--- a line was stopped, or the wait past the last one
-stopped : (why : Stop) (lines : List Line) (v : ClusterView) (old : List QueuePass) (done : List Line) (found more : List ScriptLine) (w : ClusterView) (now : List QueuePass) (u : ClusterView) (new : List QueuePass)
-    → (far : Progress lines v old done found w now) → more ≡ found → AllZip HasGoneOn now new
-    → ((silos : ℕ) → IsUntouched silos v old → AloneProduces new → HasToldFront (missed_in found) done far.left new)
-    → StopsBy why (next_command far.left) v old u new → StopsFront why lines v old more u new
-stopped why lines v old done found more w now u new far same on told stops = (
-  record {
-    done = done;
-    left = far.left;
-    whole = far.whole;
-    printed = λ silos untouched alone. subst (λ (ls : List ScriptLine). IsPrinted silos done ls) (sym same) (far.printed silos untouched (alone-back now new on alone));
-    told = λ silos untouched alone. subst (λ (ls : List ScriptLine). HasToldFront (missed_in ls) done far.left new) (sym same) (told silos untouched alone);
-  },
-  stops,
-)
+  has-printed : (new : List QueuePass) → AllZip HasGoneOn now new → (silos : ℕ) → IsUntouched silos v old → AloneProduces new → IsPrinted silos done found
+  has-printed new on silos untouched alone = far.printed silos untouched (alone-back now new on alone)
 
--- the next line was
-pub line-stopped : (why : Stop) (lines : List Line) (v : ClusterView) (old : List QueuePass) (done : List Line) (found more : List ScriptLine) (w : ClusterView) (now : List QueuePass) (line : Line) (u : ClusterView) (new : List QueuePass)
-    → Progress lines v old done found w now → more ≡ found → length done < length lines → line ≡ get_or lines (length done) line → AllZip HasGoneOn now new → TellsInPart now line.command new
-    → StopsBy why line.command v old u new → StopsFront why lines v old more u new
-line-stopped why lines v old done found more w now line u new far same within is on part stops =
-    let next = get-next done far.left line (subst (λ (ls : List Line). length done < length ls) far.whole within) (subst (λ (ls : List Line). line ≡ get_or ls (length done) line) far.whole is) in
-    let rises = rises-of far.last line far.left next.0 next.1 far.rises in
-    let missed = missed_in found in
-    let fresh = fresh-number line.number far.last missed done rises.0 far.below far.missed in
-    stopped why lines v old done found more w now u new far same on
-    (λ silos untouched alone.
-    subst (λ (left : List Line). HasToldFront missed done left new) (sym next.1)
-    (part (begins-on old now far.on untouched.empty) alone missed done line.number fresh (far.told silos untouched (alone-back now new on alone))))
-    (subst (λ (left : List Line). StopsBy why (next_command left) v old u new) (sym next.1) stops)
+  empties : {silos : ℕ} → IsUntouched silos v old → AllByRecursion BeginsEmpty now
+  empties untouched = begins-on old now far.on untouched.empty
 
--- all lines were done, and the wait was stopped
-pub wait-stopped : (why : Stop) (lines : List Line) (v : ClusterView) (old : List QueuePass) (done : List Line) (found : List ScriptLine) (w : ClusterView) (now : List QueuePass) (u : ClusterView) (new : List QueuePass)
-    → Progress lines v old done found w now → done ≡ lines → AllZip HasGoneOn now new → Tells now command.Drain answer.Taken new → StopsBy why command.Drain v old u new → StopsFront why lines v old found u new
-wait-stopped why lines v old done found w now u new far all on tells stops =
-    let none = none-left done far.left (all ∙ far.whole) in
-    let missed = missed_in found in
-    let number = suc far.last in
-    let fresh = fresh-number number far.last missed done (omega arith) far.below far.missed in
-    stopped why lines v old done found found w now u new far refl on
-    (λ silos untouched alone.
-    subst (λ (left : List Line). HasToldFront missed done left new) (sym none)
-    (drain-part now new tells (begins-on old now far.on untouched.empty) alone missed done number fresh (far.told silos untouched (alone-back now new on alone))))
-    (subst (λ (left : List Line). StopsBy why (next_command left) v old u new) (sym none) stops)
+  -- the next line, and that its number is new
+  next-line : (line : Line) → length done < length lines → line ≡ get_or lines (length done) line
+      → (rest : List Line) × (far.left ≡ line ∷ rest) × (far.last < line.number) × RisesFrom line.number rest × IsNewNumber line.number (missed_in found) done
+  next-line line within is =
+      let next = get-next done far.left line (subst (λ (ls : List Line). length done < length ls) far.whole within) (subst (λ (ls : List Line). line ≡ get_or ls (length done) line) far.whole is) in
+      let rises = subst (λ (ls : List Line). RisesFrom far.last ls) next.1 far.rises in
+      (next.0, next.1, rises.0, rises.1, fresh-number line.number far.last (missed_in found) done rises.0 far.below far.missed)
 
--- ---- by what came of a call
+  -- a number past all lines
+  new-number : IsNewNumber (suc far.last) (missed_in found) done
+  new-number = fresh-number (suc far.last) far.last (missed_in found) done (omega arith) far.below far.missed
 
-pub on-err : {A E X : Type 0} → (r : Result A E) → X → OnErr r X
-on-err (Ok a) x = tt
-on-err (Err e) x = x
+  -- one line more was done
+  pub does : (line : Line) (a : Answer) (more : List ScriptLine) (u : ClusterView) (new : List QueuePass) → length done < length lines → line ≡ get_or lines (length done) line → DoesLine w now line.command a u new
+      → more ≡ found ++ printed_lines a line.number → AllZip HasGoneOn now new → turnstiles new ≡ turnstiles now → OperatorGoesOn w.operator u.operator
+      → Progress lines v old (done ++ line ∷ []) more u new
+  does line a more u new within is line_does prints on at cluster =
+      let next = next-line line within is in
+      let number = line.number in
+      let missed = missed_in found in
+      let fresh = next.4 in
+      let same : missed_in more ≡ with_missed a number missed = ap (λ (lines : List ScriptLine). missed_in lines) prints ∙ missed-more a number found in
+      record {
+        left = next.0;
+        whole = far.whole ∙ ap (λ (ls : List Line). done ++ ls) next.1 ∙ sym (append_assoc done (line ∷ []) next.0);
+        last = number;
+        rises = next.3;
+        below = All-push (λ (l : Line). l.number ≤ number) done line (All-weaken (λ (l : Line). l.number ≤ far.last) (λ (l : Line). l.number ≤ number) (λ l less. omega (arith, next.2, less)) done far.below) (omega arith);
+        missed = subst (λ (numbers : List ℕ). AllByRecursion (λ (m : ℕ). m ≤ number) numbers) (sym same) (missed-up a number far.last missed next.2 far.missed);
+        on = on-all old now new far.on on;
+        at = at ∙ far.at;
+        cluster = op-trans v.operator w.operator u.operator far.cluster cluster;
+        stays = λ free.
+            let before = far.stays free in
+            let after = line_does.stays before.0 in
+            (after.0, after.1 ∙ before.1);
+        live = λ silos untouched.
+            let was = far.live silos untouched in
+            let is_now = line_does.live was.1 in
+            (is_now.0 ∙ ap (λ (live : List ℕ). live_after live line.command) was.0 ∙ sym (scripts-grow.live silos done line), is_now.1);
+        told = λ silos untouched alone.
+            subst (λ (numbers : List ℕ). HasTold numbers (done ++ line ∷ []) new) (sym same)
+            (line_does.told (empties untouched) alone missed done number fresh (has-told new on silos untouched alone));
+        printed = λ silos untouched alone.
+            let has = line_does.printed (empties untouched) alone missed done number fresh (has-told new on silos untouched alone) silos (far.live silos untouched).0 in
+            prints
+            ∙ (λ i. has-printed new on silos untouched alone i ++ sym has i)
+            ∙ (ap (λ (front : List ScriptLine). front ++ command_printed (with_missed a number missed) silos done number line.command) (sym (before-printed a number missed silos done fresh.0))
+            ∙ (sym (scripts-grow.printed (with_missed a number missed) silos done line)
+            ∙ ap (λ (numbers : List ℕ). script_lines numbers silos (done ++ line ∷ [])) (sym same)));
+      }
+
+  -- why a line was stopped is why the script is
+  pub stops-later : (why : Stop) (asked : Command) (u : ClusterView) (new : List QueuePass) → is_fixed v ≡ false → StopsBy why asked w now u new → StopsBy why asked v old u new
+  stops-later stop.Limit asked u new free stops = limit-earlier asked v w u old now new far.cluster (far.stays free).1 far.on stops
+  stops-later stop.NotQuiet asked u new free stops = (stops.0, waits-earlier v.looks old now new far.on (subst (λ n. WaitsInVain n now new) (far.stays free).1 stops.1))
+  stops-later stop.RoundLimit asked u new free stops = (stops.0, awhile-earlier v w old now new (far.stays free).1 far.on stops.1)
+  stops-later stop.Memory asked u new free stops = tt
+
+  -- a line was stopped, or the wait past the last one
+  stopped : {T : Type 0} (result : Result T Stop) (why : Stop) (more : List ScriptLine) (u : ClusterView) (new : List QueuePass) → IsErrAnd result (λ h. h ≡ why) → more ≡ found
+      → AllZip HasGoneOn now new → turnstiles new ≡ turnstiles now → OperatorGoesOn w.operator u.operator
+      → ((silos : ℕ) → IsUntouched silos v old → AloneProduces new → HasToldFront (missed_in found) done far.left new)
+      → StopsBy why (next_command far.left) v old u new → EndsLines lines v old result more u new
+  stopped (Ok x) why more u new err same on at cluster told stops = absurd err
+  stopped (Err h) why more u new err same on at cluster told stops =
+      let front : DoesFront lines v old more new = record {
+        done = done;
+        left = far.left;
+        whole = far.whole;
+        printed = λ silos untouched alone. subst (λ (ls : List ScriptLine). IsPrinted silos done ls) (sym same) (has-printed new on silos untouched alone);
+        told = λ silos untouched alone. subst (λ (ls : List ScriptLine). HasToldFront (missed_in ls) done far.left new) (sym same) (told silos untouched alone);
+      } in
+      record {
+        all = tt;
+        front = (front, subst (λ (s : Stop). StopsBy s (next_command far.left) v old u new) (sym err) stops);
+        on = on-all old now new far.on on;
+        at = at ∙ far.at;
+        cluster = op-trans v.operator w.operator u.operator far.cluster cluster;
+      }
+
+  -- the next line was
+  pub line-stopped : {T : Type 0} (result : Result T Stop) (why : Stop) (more : List ScriptLine) (line : Line) (u : ClusterView) (new : List QueuePass) → IsErrAnd result (λ h. h ≡ why) → more ≡ found
+      → length done < length lines → line ≡ get_or lines (length done) line → AllZip HasGoneOn now new → turnstiles new ≡ turnstiles now → OperatorGoesOn w.operator u.operator
+      → TellsInPart now line.command new → StopsBy why line.command v old u new → EndsLines lines v old result more u new
+  line-stopped result why more line u new err same within is on at cluster part stops =
+      let next = next-line line within is in
+      stopped result why more u new err same on at cluster
+      (λ silos untouched alone.
+      subst (λ (left : List Line). HasToldFront (missed_in found) done left new) (sym next.1)
+      (part (empties untouched) alone (missed_in found) done line.number next.4 (has-told new on silos untouched alone)))
+      (subst (λ (left : List Line). StopsBy why (next_command left) v old u new) (sym next.1) stops)
+
+  -- all lines were done, and then it was waited until all queues were quiet
+  pub wait-ends : {T : Type 0} (result : Result T Stop) (looks : ℕ) (new : List QueuePass) → looks ≡ w.looks → done ≡ lines → is_fixed v ≡ false → AllZip HasGoneOn now new → turnstiles new ≡ turnstiles now
+      → Tells now command.Drain answer.Taken new → OnOk result (LooksQuiet looks now new) → IfErr result (λ why. IsUnquiet why looks now new) → EndsLines lines v old result found w new
+  wait-ends (Ok x) looks new same all free on at tells quiet unquiet =
+      let missed = missed_in found in
+      let line : Line = record { number = suc far.last; command = command.Drain } in
+      let ends : DoesAll lines v old found w new = record {
+        quiet = record { before = now; on = far.on; ends = subst (λ n. LooksQuiet n now new) (same ∙ (far.stays free).1) quiet };
+        printed = λ silos untouched alone. subst (λ (ls : List Line). IsPrinted silos ls found) all (has-printed new on silos untouched alone);
+        told = λ silos untouched alone queue p at.
+            tells.told (empties untouched) alone missed done (suc far.last) new-number (has-told new on silos untouched alone) queue p at
+            ∙ scripts-grow.told missed queue done line
+            ∙ ap (λ (ls : List Line). script.told missed queue ls) all;
+        live = λ silos untouched. (far.live silos untouched).0 ∙ ap (λ (ls : List Line). live_silos silos ls) all;
+      } in
+      record { all = ends; front = tt; on = on-all old now new far.on on; at = at ∙ far.at; cluster = far.cluster }
+  wait-ends (Err why) looks new same all free on at tells quiet unquiet =
+      let none = none-left done far.left (all ∙ far.whole) in
+      stopped (Err why) why found w new refl refl on at (op-refl w.operator)
+      (λ silos untouched alone.
+      subst (λ (left : List Line). HasToldFront (missed_in found) done left new) (sym none)
+      (drain-part now new tells (empties untouched) alone (missed_in found) done (suc far.last) new-number (has-told new on silos untouched alone)))
+      (subst (λ (left : List Line). StopsBy why (next_command left) v old w new) (sym none) (stops-later why command.Drain w new free (unquiet-stops why w w looks now new same unquiet)))

@@ -125,14 +125,6 @@ flat_map-same f g (x ∷ xs) all = λ i. all.0 i ++ flat_map-same f g xs all.1 i
 
 -- ---- implicit names
 
-abbrev implicit_kind : SubName → List ℕ
-implicit_kind (name.Explicit number) = []
-implicit_kind (name.Implicit kind stream) = kind
-
-abbrev implicit_key : SubName → List ℕ
-implicit_key (name.Explicit number) = []
-implicit_key (name.Implicit kind stream) = stream.key
-
 module _ (blocks : ℕ) (limits : Limits) (history : List Entry) (p : PlainPartition) (stands : Stands blocks limits history p) where
   abbrev rules : List Rule
   rules = rules_of history
@@ -177,7 +169,10 @@ module _ (blocks : ℕ) (limits : Limits) (history : List Entry) (p : PlainParti
       let owed = implicit-owed blocks limits history p stands kind stream r found in
       let bound = (records_agree-from kept-step blocks limits history p stands s r found).1 in
       let binding = same_Some _ _ (sym (bound-made kind stream now one) ∙ bound) in
-      let grain : record { kind = one.kind; key = one.stream.key } ≡ r.grain = (λ i. record { kind = implicit_kind (sym one.name i); key = implicit_key (sym one.name i) }) ∙ sym owed.grain in
+      let named : name.Implicit kind stream ≡ name.Implicit one.kind one.stream = one.name in
+      let same_kind : one.kind ≡ kind = cc in
+      let same_stream : one.stream ≡ stream = cc in
+      let grain : record { kind = one.kind; key = one.stream.key } ≡ r.grain = (λ i. record { kind = same_kind i; key = (same_stream i).key }) ∙ sym owed.grain in
       ap (λ (r : Subscription). summary_of (s, r)) one.value
       ∙ (λ i. record { name = s; stream = (binding i).stream; grain = grain i; start = (binding i).start; is_open = sym owed.is_open i })
 

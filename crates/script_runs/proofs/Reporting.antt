@@ -22,7 +22,7 @@ use Rattle.script_runs.proofs.Seen.{none-told}
 use Rattle.script_runs.specs.declared.runs.running.ScriptEnd.{ScriptEnd}
 use Rattle.script_runs.specs.declared.runs.running.ScriptEnd.TheVariants as end
 use Rattle.script_runs.specs.Lines.{HasToldFront}
-use Rattle.script_runs.specs.Runs.{DoesFront, EndsRun, EndsScript, IsPrinted, IsUntouched, TellFront, missed_in, run_end}
+use Rattle.script_runs.specs.Runs.{EndsRun, EndsScript, IsPrinted, IsUntouched, TellFront, missed_in, run_end}
 use Rattle.script_runs.proofs.Fronts.{none-part}
 use Rattle.script_runs.proofs.Placing.{all-from}
 use Rattle.script_runs.proofs.Progress.{alone-back}
@@ -127,14 +127,6 @@ count-queues config c caller now histories new same begun =
 
 module _ {H : Type 0} (entries : H → List (Entry Op Reply)) where
   -- what a script has printed and told that was done in part or as a whole, where nobody else has produced
-  front-known : (config : Config) (lines : List Line) (c : ClusterView) (caller now : List QueuePass) (found : List ScriptLine) (histories : List (List (Entry Op Reply))) → IsConfig config → IsNew config c caller → DoesFront lines c caller found now
-      → AllZip HasBegun now histories → CallersAloneProduce (now ∷ []) histories
-      → (done left : List Line) × (lines ≡ done ++ left) × IsPrinted config.silos done found × TellFront (missed_in found) done left histories
-  front-known config lines c caller now found histories is new front begun made =
-      let fresh = untouched config c caller is new in
-      let others = alone now histories begun made in
-      (front.done, front.left, front.whole, front.printed config.silos fresh others, front-tells now histories (missed_in found) front.done front.left begun made (front.told config.silos fresh others))
-
   front-done : (config : Config) (lines : List Line) (c w : ClusterView) (caller now : List QueuePass) (found : List ScriptLine) (how : ScriptEnd) (histories : List (List (Entry Op Reply))) → IsConfig config → IsNew config c caller → EndsScript how lines c caller found w now
       → AllZip HasBegun now histories → CallersAloneProduce (now ∷ []) histories
       → (done left : List Line) × (lines ≡ done ++ left) × IsPrinted config.silos done found × TellFront (missed_in found) done left histories
@@ -149,7 +141,11 @@ module _ {H : Type 0} (entries : H → List (Entry Op Reply)) where
         front-tells now histories missed lines [] begun made (0, λ queue p at. ([], ends.1.told config.silos fresh others queue p at ∙ sym (append-nil (script.told missed queue lines)), none-part 0 command.Drain queue (λ less. refl))),
       )
   front-done config lines c w caller now found end.Halted histories is new ends begun made = absurd (true≢false (sym ends.0 ∙ new.goes_on))
-  front-done config lines c w caller now found how histories is new ends begun made = front-known config lines c caller now found histories is new ends.1.0 begun made
+  front-done config lines c w caller now found how histories is new ends begun made =
+      let fresh = untouched config c caller is new in
+      let others = alone now histories begun made in
+      let front = ends.1.0 in
+      (front.done, front.left, front.whole, front.printed config.silos fresh others, front-tells now histories (missed_in found) front.done front.left begun made (front.told config.silos fresh others))
 
   pub run-ends : (back : List SiloView) (config : Config) (lines : List Line) (c w : ClusterView) (caller now : List QueuePass) (found : List ScriptLine) (answer : Finished H) (how : ScriptEnd) → IsConfig config → IsNew config c caller → turnstiles now ≡ turnstiles caller
       → EndsScript how lines c caller found w now → HasFinished entries w (now ∷ []) back answer → EndsRun entries config lines found (run_end answer how)

@@ -66,27 +66,22 @@ module _ (before : List Entry) (p : PlainPartition) (knows : Knows before p) whe
       ap reply.Published (sym knows.batches)
       ∙ sym (ap (λ b. if b then reply.Published (batch_count past) else reply.BadBatch) (batch-size (length payloads) good))))
 
-  answers-latest : (stream : StreamId) (grain : GrainId) (start : Token) (position : ℕ) → Answers before (op.Subscribe stream grain Latest) (subscribe_at p stream grain start position)
+  answers-subscribe_at : (stream : StreamId) (grain : GrainId) (from : Start) (start : Token) (position : ℕ)
+      → ((missed : List ℕ) (line : ℕ) → is_among line missed ≡ false → told_reply missed past line (op.Subscribe stream grain from) ≡ subscribe_reply past false)
+      → Answers before (op.Subscribe stream grain from) (subscribe_at p stream grain start position)
   unfolding subscribe_at
-  answers-latest stream grain start position =
-      cond_both (nat_le p.limits.subs (length p.subs)) _ _ (Answers before (op.Subscribe stream grain Latest))
+  answers-subscribe_at stream grain from start position asks =
+      cond_both (nat_le p.limits.subs (length p.subs)) _ _ (Answers before (op.Subscribe stream grain from))
       (λ full limit missed line same. absurd (cc))
-      (λ room limit missed line same. ap (λ n. reply.Subscribed (suc n)) (sym knows.number))
-
-  answers-at : (stream : StreamId) (grain : GrainId) (token : Token) (position : ℕ) → Answers before (op.Subscribe stream grain (At token)) (subscribe_at p stream grain token position)
-  unfolding subscribe_at
-  answers-at stream grain token position =
-      cond_both (nat_le p.limits.subs (length p.subs)) _ _ (Answers before (op.Subscribe stream grain (At token)))
-      (λ full limit missed line same. absurd (cc))
-      (λ room limit missed line same. ap (λ n. reply.Subscribed (suc n)) (sym knows.number) ∙ sym (ap (subscribe_reply past) same))
+      (λ room limit missed line same. ap (λ n. reply.Subscribed (suc n)) (sym knows.number) ∙ sym (asks missed line same))
 
   answers-subscribe : (stream : StreamId) (grain : GrainId) (start : Start) → Answers before (op.Subscribe stream grain start) (subscribe p stream grain start)
   unfolding subscribe
-  answers-subscribe stream grain Latest = answers-latest stream grain (batch_token p.batches) p.high
+  answers-subscribe stream grain Latest = answers-subscribe_at stream grain Latest (batch_token p.batches) p.high (λ missed line same. refl)
   answers-subscribe stream grain (At token) =
       cond_both (token_lt token (low_token p)) _ _ (Answers before (op.Subscribe stream grain (At token)))
       (λ below limit missed line same. sym (ap (subscribe_reply past) same))
-      (λ there. answers-at stream grain token (lower_bound p token))
+      (λ there. answers-subscribe_at stream grain (At token) token (lower_bound p token) (λ missed line same. ap (subscribe_reply past) same))
 
   answers-unsubscribe_from : (s : SubName) (found : Option Subscription) → sub_at p s ≡ found → Answers before (op.Unsubscribe s) (unsubscribe_from p s found)
   unfolding unsubscribe_from

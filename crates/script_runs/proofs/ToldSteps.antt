@@ -1,5 +1,5 @@
 -- What a history tells of the registrations and the rules of the partition that it leaves.
-use Rattle.script_runs.proofs.Prelude.{◌≡◌, ◌∙◌, ap, sym, subst, refl, ℕ, suc, ◌+◌, ◌-◌, ◌*◌, ◌==◌, ◌&&◌, ◌||◌, not, min, nat_lt, nat_le, Bool, true, false, List, [], ◌∷◌, ◌++◌, length, filter, take, drop, reverse, fold, Option, Some, None, is_some, if◌then◌else◌, arith, cond_both, or_right, append-nil, map-append, reverse-append, take-append-drop, filter-append, filter_map-append, AllByRecursion, cons_option, filter_map, list_any, All-append, All-weaken, batch_token, is_owed, same_name, same_sub, token_lt, value_at, with_value, Event, GrainId, StreamId, SubName, BLOCK_EVENTS, Rule, Token, Fits, kept-step, fits-empty, fits-step, is_closed, published_events, closed_after, published_after, between, empty, low_token, lower_bound, new_subscription, sub_at, all_implied, drops, is_stale, room, subs_with, Reply, Leads, Stands, Limits, Op, Latest, At, PlainPartition, Subscription}
+use Rattle.script_runs.proofs.Prelude.{◌≡◌, ◌∙◌, ap, sym, subst, refl, ℕ, suc, ◌+◌, ◌-◌, ◌*◌, ◌==◌, ◌&&◌, ◌||◌, not, min, nat_lt, nat_le, Bool, true, false, add-one, List, [], ◌∷◌, ◌++◌, length, filter, take, drop, reverse, fold, Option, Some, None, is_some, if◌then◌else◌, arith, cond_both, or_right, append-nil, map-append, reverse-append, take-append-drop, filter-append, filter_map-append, AllByRecursion, cons_option, filter_map, list_any, All-append, All-weaken, batch_token, is_owed, same_name, same_sub, token_lt, value_at, with_value, Event, GrainId, StreamId, SubName, BLOCK_EVENTS, Rule, Token, Fits, kept-step, fits-empty, fits-step, is_closed, published_events, closed_after, published_after, between, empty, low_token, lower_bound, new_subscription, sub_at, all_implied, drops, is_stale, room, subs_with, Reply, Leads, Stands, Limits, Op, Latest, At, PlainPartition, Subscription}
 use Rattle.std.proofs.lemmas.List.{append_assoc, length-append}
 use Rattle.std.proofs.lemmas.List.Folds.{list_any-append}
 use Rattle.stream_ident.specs.declared.ident.SubName.TheVariants as name
@@ -65,13 +65,6 @@ made-grown : {Y : Type 0} (made : Op → Reply → Option Y) (history : List Ent
     → filter_map (λ (e : Entry). made e.op e.reply) (grown history op told) ≡ filter_map (λ (e : Entry). made e.op e.reply) history ++ cons_option (made op told) []
 made-grown made history op told = filter_map-append (λ (e : Entry). made e.op e.reply) history (record { op = op; reply = told } ∷ [])
 
--- an entry of which nothing is made
-made-same : {Y : Type 0} (made : Op → Reply → Option Y) (history : List Entry) (op : Op) (told : Reply) → made op told ≡ None
-    → filter_map (λ (e : Entry). made e.op e.reply) (grown history op told) ≡ filter_map (λ (e : Entry). made e.op e.reply) history
-made-same made history op told none =
-    made-grown made history op told
-    ∙ (ap (λ o. filter_map (λ (e : Entry). made e.op e.reply) history ++ cons_option o []) none ∙ append-nil (filter_map (λ (e : Entry). made e.op e.reply) history))
-
 -- a subscribe that was answered with a number is one more, and nothing else is
 abbrev counted : Op → Reply → List Entry
 counted op told = if is_subscribed op told then record { op = op; reply = told } ∷ [] else []
@@ -80,14 +73,6 @@ count-grown : (history : List Entry) (op : Op) (told : Reply) → subscribed_cou
 count-grown history op told =
     ap length (filter-append (λ (e : Entry). is_subscribed e.op e.reply) history (record { op = op; reply = told } ∷ []))
     ∙ length-append (filter (λ (e : Entry). is_subscribed e.op e.reply) history) (filter (λ (e : Entry). is_subscribed e.op e.reply) (record { op = op; reply = told } ∷ []))
-
-count-same : (history : List Entry) (op : Op) (told : Reply) → is_subscribed op told ≡ false → subscribed_count (grown history op told) ≡ subscribed_count history
-count-same history op told none =
-    let no_more : length (counted op told) ≡ 0 = rw none refl in
-    count-grown history op told ∙ (ap (λ n. subscribed_count history + n) no_more ∙ plus-zero (subscribed_count history))
-  where
-    plus-zero : (n : ℕ) → n + 0 ≡ n
-    plus-zero n = omega arith
 
 any-append : (passes : Event → Bool) (events more : List Event) → list_any passes events ≡ true → list_any passes (events ++ more) ≡ true
 any-append passes events more any = list_any-append passes events more ∙ ap (λ b. b || list_any passes more) any
@@ -109,8 +94,23 @@ implied-grown history op told made all =
     (λ (one : Registration). IsImpliedBy-more (published_events history) (published_after (published_events history) op told)
     (published-grows op told (published_events history)) one.name one.stream one.grain one.start) made all)
 
-closes-none : (history : List Entry) (op : Op) (told : Reply) (s : SubName) → is_closed history s ≡ false → closed_after s false op told ≡ false → is_closed (grown history op told) s ≡ false
-closes-none history op told s open_s none = closed-grown history op told s ∙ (ap (λ b. closed_after s b op told) open_s ∙ none)
+-- what an operation adds to the rules, the last number and the registrations is what its entry tells
+told-grown : (history : List Entry) (p q : PlainPartition) (op : Op) (answer : Reply) → IsTold history p
+    → q.rules ≡ p.rules ++ cons_option (rule_of op answer) [] → q.explicit ≡ p.explicit + length (counted op answer)
+    → filter_map given_of (registrations q.subs) ≡ filter_map given_of (registrations p.subs) ++ cons_option (given_by op answer) []
+    → AllByRecursion (IsImplied (published_events history)) (registrations q.subs)
+    → ((kind : List ℕ) (stream : StreamId) → closed_after (name.Implicit kind stream) false op answer ≡ false) → IsTold (grown history op answer) q
+told-grown history p q op answer told rules number given implied closed =
+    record {
+      rules = rules ∙ (ap (λ rules. rules ++ cons_option (rule_of op answer) []) told.rules ∙ sym (made-grown rule_of history op answer));
+      number = number ∙ (ap (λ n. n + length (counted op answer)) told.number ∙ sym (count-grown history op answer));
+      given = given ∙ (ap (λ given. given ++ cons_option (given_by op answer) []) told.given ∙ sym (made-grown given_by history op answer));
+      implied = implied-grown history op answer (registrations q.subs) implied;
+      closed = λ kind stream. closed-grown history op answer (name.Implicit kind stream) ∙ (ap (λ b. closed_after (name.Implicit kind stream) b op answer) (told.closed kind stream) ∙ closed kind stream);
+    }
+
+plus-zero : (n : ℕ) → n ≡ n + 0
+plus-zero n = omega arith
 
 -- an operation of which nothing is made, and that keeps the registrations and the rules
 record IsPlain (op : Op) (told : Reply) : Type 0 where
@@ -119,15 +119,18 @@ record IsPlain (op : Op) (told : Reply) : Type 0 where
   number : is_subscribed op told ≡ false
   closed : (kind : List ℕ) (stream : StreamId) → closed_after (name.Implicit kind stream) false op told ≡ false
 
-told-kept : (history : List Entry) (p : PlainPartition) (op : Op) (out : PlainPartition × Reply) → IsTold history p → Keeps p out → IsPlain op out.1 → IsTold (grown history op out.1) out.0
+abbrev ToldAfter : List Entry → Op → PlainPartition × Reply → Type 0
+ToldAfter history op out = IsTold (grown history op out.1) out.0
+
+told-kept : (history : List Entry) (p : PlainPartition) (op : Op) (out : PlainPartition × Reply) → IsTold history p → Keeps p out → IsPlain op out.1 → ToldAfter history op out
 told-kept history p op out told keeps plain =
-    record {
-      rules = keeps.1 ∙ (told.rules ∙ sym (made-same rule_of history op out.1 plain.rule));
-      number = keeps.2 ∙ (told.number ∙ sym (count-same history op out.1 plain.number));
-      given = ap (filter_map given_of) keeps.0 ∙ (told.given ∙ sym (made-same given_by history op out.1 plain.given));
-      implied = subst (AllByRecursion (IsImplied (published_events (grown history op out.1)))) (sym keeps.0) (implied-grown history op out.1 (registrations p.subs) told.implied);
-      closed = λ kind stream. closes-none history op out.1 (name.Implicit kind stream) (told.closed kind stream) (plain.closed kind stream);
-    }
+    let given = filter_map given_of (registrations p.subs) in
+    let no_more : length (counted op out.1) ≡ 0 = rw plain.number refl in
+    told-grown history p out.0 op out.1 told
+    (keeps.1 ∙ (sym (append-nil p.rules) ∙ ap (λ o. p.rules ++ cons_option o []) (sym plain.rule)))
+    (keeps.2 ∙ (plus-zero p.explicit ∙ ap (λ n. p.explicit + n) (sym no_more)))
+    (ap (filter_map given_of) keeps.0 ∙ (sym (append-nil given) ∙ ap (λ o. given ++ cons_option o []) (sym plain.given)))
+    (subst (AllByRecursion (IsImplied (published_events history))) (sym keeps.0) told.implied) plain.closed
 
 -- whether a registration, a rule or an end of one may be made of an operation that was answered so
 abbrev makes : Op → Reply → Bool
@@ -142,7 +145,7 @@ plain (op.AddRule kind namespace) (reply.RuleAdded from) none = absurd (cc)
 plain (op.Unsubscribe sub) told none = absurd (cc)
 plain op told none = record { rule = refl; given = refl; number = refl; closed = λ kind stream. refl }
 
-told-plain : (history : List Entry) (p : PlainPartition) (op : Op) (out : PlainPartition × Reply) → IsTold history p → Keeps p out → makes op out.1 ≡ false → IsTold (grown history op out.1) out.0
+told-plain : (history : List Entry) (p : PlainPartition) (op : Op) (out : PlainPartition × Reply) → IsTold history p → Keeps p out → makes op out.1 ≡ false → ToldAfter history op out
 told-plain history p op out told keeps none = told-kept history p op out told keeps (plain op out.1 none)
 
 -- ---- a subscribe
@@ -155,33 +158,17 @@ with_value-absent s r (entry ∷ subs) none =
       | false ↦ λ none. ap (λ rest. entry ∷ rest) (with_value-absent s r subs none)
     ]) none
 
-abbrev ToldAfter : List Entry → Op → PlainPartition × Reply → Type 0
-ToldAfter history op out = IsTold (grown history op out.1) out.0
-
 told-subscribed : (history : List Entry) (p : PlainPartition) (stream : StreamId) (grain : GrainId) (from : Start) (start : Token) (position : ℕ) → sub_at p (name.Explicit (suc p.explicit)) ≡ None → IsTold history p
     → ToldAfter history (op.Subscribe stream grain from) (subscribe_at p stream grain start position)
 unfolding subscribe_at
 told-subscribed history p stream grain from start position none told =
     cond_both (nat_le p.limits.subs (length p.subs)) _ _ (ToldAfter history (op.Subscribe stream grain from))
     (λ _. told-plain history p (op.Subscribe stream grain from) (p, reply.TooMany) told (refl, refl, refl) refl)
-    (λ _. record {
-      rules = told.rules ∙ sym (made-same rule_of history (op.Subscribe stream grain from) (reply.Subscribed (suc p.explicit)) refl);
-      number = next (subscribed_count history) told.number ∙ sym (count-grown history (op.Subscribe stream grain from) (reply.Subscribed (suc p.explicit)));
-      given =
-          ap (filter_map given_of) pushed
-          ∙ (filter_map-append given_of (registrations p.subs) (last ∷ [])
-          ∙ (ap (λ given. given ++ (suc p.explicit, grain) ∷ []) told.given
-          ∙ sym (made-grown given_by history (op.Subscribe stream grain from) (reply.Subscribed (suc p.explicit)))));
-      implied =
-          subst (AllByRecursion (IsImplied (published_events (grown history (op.Subscribe stream grain from) (reply.Subscribed (suc p.explicit)))))) (sym pushed)
-          (All-append (IsImplied (published_events (grown history (op.Subscribe stream grain from) (reply.Subscribed (suc p.explicit))))) (registrations p.subs) (last ∷ [])
-          (implied-grown history (op.Subscribe stream grain from) (reply.Subscribed (suc p.explicit)) (registrations p.subs) told.implied) (tt, tt));
-      closed = λ kind own. closes-none history (op.Subscribe stream grain from) (reply.Subscribed (suc p.explicit)) (name.Implicit kind own) (told.closed kind own) refl;
-    })
+    (λ _. told-grown history p _ (op.Subscribe stream grain from) (reply.Subscribed (suc p.explicit)) told (sym (append-nil p.rules)) (sym (add-one p.explicit))
+    (ap (filter_map given_of) pushed ∙ filter_map-append given_of (registrations p.subs) (last ∷ []))
+    (subst (AllByRecursion (IsImplied (published_events history))) (sym pushed) (All-append (IsImplied (published_events history)) (registrations p.subs) (last ∷ []) told.implied (tt, tt)))
+    (λ kind own. refl))
   where
-    next : (n : ℕ) → p.explicit ≡ n → suc p.explicit ≡ n + 1
-    next n is = omega (arith, is)
-
     last : Registration
     last = record { name = name.Explicit (suc p.explicit); stream = stream; grain = grain; start = start }
 
@@ -228,15 +215,7 @@ told-add_rule history p kind namespace told =
     (λ _. told-plain history p (op.AddRule kind namespace) (p, reply.RuleThere) told (refl, refl, refl) refl)
     (λ _. cond_both (nat_le p.limits.rules (length p.rules)) _ _ (ToldAfter history (op.AddRule kind namespace))
     (λ _. told-plain history p (op.AddRule kind namespace) (p, reply.TooMany) told (refl, refl, refl) refl)
-    (λ _. record {
-      rules =
-          ap (λ rules. rules ++ record { kind = kind; namespace = namespace; from = p.batches } ∷ []) told.rules
-          ∙ sym (made-grown rule_of history (op.AddRule kind namespace) (reply.RuleAdded p.batches));
-      number = told.number ∙ sym (count-same history (op.AddRule kind namespace) (reply.RuleAdded p.batches) refl);
-      given = told.given ∙ sym (made-same given_by history (op.AddRule kind namespace) (reply.RuleAdded p.batches) refl);
-      implied = implied-grown history (op.AddRule kind namespace) (reply.RuleAdded p.batches) (registrations p.subs) told.implied;
-      closed = λ own_kind stream. closes-none history (op.AddRule kind namespace) (reply.RuleAdded p.batches) (name.Implicit own_kind stream) (told.closed own_kind stream) refl;
-    }))
+    (λ _. told-grown history p _ (op.AddRule kind namespace) (reply.RuleAdded p.batches) told refl (plus-zero p.explicit) (sym (append-nil (filter_map given_of (registrations p.subs)))) told.implied (λ own_kind stream. refl)))
 
 -- ---- a pull
 
@@ -293,13 +272,7 @@ unfolding pull_events
 told-pulled history p generation max_events low high fits told =
     cond_both (nat_lt p.limits.subs (length (subs_with p.rules p.high p.subs (between p.log p.high high)))) _ _ (ToldAfter history (op.Pull generation max_events))
     (λ _. told-plain history p (op.Pull generation max_events) (p, reply.TooMany) told (refl, refl, refl) refl)
-    (λ _. record {
-      rules = told.rules ∙ sym (made-same rule_of history (op.Pull generation max_events) _ refl);
-      number = told.number ∙ sym (count-same history (op.Pull generation max_events) _ refl);
-      given = next.0 ∙ (told.given ∙ sym (made-same given_by history (op.Pull generation max_events) _ refl));
-      implied = implied-grown history (op.Pull generation max_events) _ (registrations (subs_with p.rules p.high p.subs (between p.log p.high high))) next.1;
-      closed = λ kind stream. closes-none history (op.Pull generation max_events) _ (name.Implicit kind stream) (told.closed kind stream) refl;
-    })
+    (λ _. told-grown history p _ (op.Pull generation max_events) _ told (sym (append-nil p.rules)) (plus-zero p.explicit) (next.0 ∙ sym (append-nil (filter_map given_of (registrations p.subs)))) next.1 (λ kind stream. refl))
   where
     more : AllByRecursion (IsOneMore (published_events history)) (all_implied p.rules p.high (between p.log p.high high))
     more =

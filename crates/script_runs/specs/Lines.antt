@@ -1,5 +1,5 @@
 -- What a line of a script does on a cluster.
-use Rattle.std.specs.Prelude.{◌≡◌, ◌⊎◌, ℕ, ◌<◌, ◌≤◌, false, List, [], ◌∷◌, ◌++◌, Option, Some, None, Result, Ok, Err, slice_get}
+use Rattle.std.specs.Prelude.{◌≡◌, ◌⊎◌, ℕ, ◌<◌, ◌≤◌, false, List, [], ◌∷◌, ◌++◌, Option, Some, None, Result, Ok, Err, IfErr, IfOk, OnErr, slice_get}
 use Rattle.std.specs.List.{AllByRecursion, AllZip}
 use Rattle.std.specs.declared.alloc.AllocError.{AllocError}
 use Rattle.queue_balancer.specs.Balance.{HasNoDoubles}
@@ -12,6 +12,7 @@ use Rattle.silo_loops.specs.Lines.{QueuePass}
 use Rattle.silo_loops.specs.declared.advance.LoopEnd.{LoopEnd}
 use Rattle.silo_loops.specs.declared.advance.Over.{Over}
 use Rattle.silo_loops.specs.declared.advance.Over.TheVariants as over
+use Rattle.silo_threads.specs.Calls.{turnstiles}
 use Rattle.silo_threads.specs.Operators.{OperatorGoesOn}
 use Rattle.silo_threads.specs.Clusters.{ClusterView, HasMetLimit, is_fixed}
 use Rattle.silo_threads.specs.declared.clusters.cluster.SiloDown.{SiloDown}
@@ -176,3 +177,12 @@ StopsBy stop.Limit asked v old w new = MeetsLimit asked v old w new
 StopsBy stop.NotQuiet asked v old w new = (asked ≡ command.Drain) × WaitsInVain v.looks old new
 StopsBy stop.RoundLimit asked v old w new = (asked ≡ command.Drain) × WaitsAWhile v.looks old new
 StopsBy stop.Memory asked v old w new = Unit {0}
+
+-- A line has ended so: it is done, or was stopped in part for a reason. The caller and the cluster have gone on.
+pub record EndsLine (v : ClusterView) (old : List QueuePass) (said : Command) (result : Result Answer Stop) (w : ClusterView) (new : List QueuePass) : Type 0 where
+  pub line : IfOk result (λ told. DoesLine v old said told w new)
+  pub part : OnErr result (TellsInPart old said new)
+  pub stops : is_fixed v ≡ false → IfErr result (λ why. StopsBy why said v old w new)
+  pub on : AllZip HasGoneOn old new
+  pub at : turnstiles new ≡ turnstiles old
+  pub cluster : OperatorGoesOn v.operator w.operator

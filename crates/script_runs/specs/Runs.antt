@@ -1,5 +1,5 @@
 -- What a script does on a cluster, and what a run of it prints.
-use Rattle.std.specs.Prelude.{◌≡◌, ℕ, true, false, List, [], ◌∷◌, ◌++◌, length, map, fold, Some, None, Ok, slice_get}
+use Rattle.std.specs.Prelude.{◌≡◌, ℕ, true, false, List, [], ◌∷◌, ◌++◌, length, map, fold, Some, None, Result, Ok, IfErr, OnOk, slice_get}
 use Rattle.std.specs.List.{AllByRecursion, AllZip, flat_map, range_with_len}
 use Rattle.stream_model.specs.declared.op.Op.{Op}
 use Rattle.stream_model.specs.declared.plain.PlainPartition.{PlainPartition}
@@ -10,7 +10,7 @@ use Rattle.turnstile.specs.declared.history.Entry.{Entry}
 use Rattle.turnstile.specs.History.{IsLegal, replay}
 use Rattle.shared_partition.specs.Partitions.{TellsOneHistory, after, replied, told_of}
 use Rattle.silo_loops.specs.Lines.{QueuePass}
-use Rattle.silo_threads.specs.Calls.{IsUnused}
+use Rattle.silo_threads.specs.Calls.{IsUnused, turnstiles}
 use Rattle.silo_threads.specs.declared.ending.closing.Traces.{Traces}
 use Rattle.silo_threads.specs.declared.ending.finishing.Finished.{Finished}
 use Rattle.silo_threads.specs.declared.ending.finishing.Finished.TheVariants as finished
@@ -18,6 +18,7 @@ use Rattle.silo_threads.specs.declared.clusters.config.Config.{Config}
 use Rattle.silo_loops.specs.Silos.{SiloView}
 use Rattle.silo_threads.specs.Clusters.{ClusterView, HasFinished, IsNew, is_fixed}
 use Rattle.silo_threads.specs.Draining.{HasGoneOn}
+use Rattle.silo_threads.specs.Operators.{OperatorGoesOn}
 use Rattle.silo_threads.specs.declared.ending.asking.Quiet.TheVariants.{All}
 use Rattle.script_runs.specs.declared.reader.line.Line.{Line}
 use Rattle.script_runs.specs.declared.reader.script_line.ScriptLine.{ScriptLine}
@@ -77,6 +78,14 @@ pub record DoesAll (lines : List Line) (v : ClusterView) (old : List QueuePass) 
   pub printed : (silos : ℕ) → IsUntouched silos v old → AloneProduces new → IsPrinted silos lines found
   pub told : (silos : ℕ) → IsUntouched silos v old → AloneProduces new → HasTold (missed_in found) lines new
   pub live : (silos : ℕ) → IsUntouched silos v old → w.operator.live ≡ live_silos silos lines
+
+-- The lines have ended so: all are done, or a front of them. The caller and the cluster have gone on.
+pub record EndsLines {T : Type 0} (lines : List Line) (v : ClusterView) (old : List QueuePass) (result : Result T Stop) (found : List ScriptLine) (w : ClusterView) (new : List QueuePass) : Type 0 where
+  pub all : OnOk result (DoesAll lines v old found w new)
+  pub front : IfErr result (λ why. StopsFront why lines v old found w new)
+  pub on : AllZip HasGoneOn old new
+  pub at : turnstiles new ≡ turnstiles old
+  pub cluster : OperatorGoesOn v.operator w.operator
 
 -- nothing was done
 pub record DoesNothing (v : ClusterView) (old : List QueuePass) (found : List ScriptLine) (w : ClusterView) (new : List QueuePass) : Type 0 where

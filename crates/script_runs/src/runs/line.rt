@@ -1,5 +1,5 @@
 //! One line of a script.
-ghost use Rattle.std.specs.Prelude.{◌≡◌, ◌≤◌, false, length, IfErr, IfOk, OnErr, OnOk};
+ghost use Rattle.std.specs.Prelude.{◌≡◌, ◌≤◌, length, IfErr, OnOk};
 ghost use Rattle.std.specs.List.{AllZip};
 ghost use Rattle.silo_threads.specs.Calls.{turnstiles};
 ghost use Rattle.silo_threads.specs.Draining.{HasGoneOn, LooksQuiet};
@@ -7,9 +7,7 @@ ghost use Rattle.stream_script.specs.declared.parser.command.Command.TheVariants
 ghost use Rattle.script_runs.specs.declared.producer.answer.Answer.TheVariants as answer;
 ghost use Rattle.script_runs.specs.Telling.{Tells};
 ghost use Rattle.script_runs.specs.Scripts.{IsRunCommand};
-ghost use Rattle.silo_threads.specs.Operators.{OperatorGoesOn};
-ghost use Rattle.silo_threads.specs.Clusters.{is_fixed};
-ghost use Rattle.script_runs.specs.Lines.{DoesLine, IsUnquiet, StopsBy, TellsInPart, came_up, stop_by, unless_limit, went_down};
+ghost use Rattle.script_runs.specs.Lines.{EndsLine, IsUnquiet, came_up, stop_by, unless_limit, went_down};
 
 use crate::producer::{Answer, ask, ask_each};
 use shared_partition::{DirectoryHistory, Gate, QueueHistory};
@@ -49,12 +47,7 @@ pub(crate) fn do_line<
 ) -> Result<Answer, Stop>
     requires some { 1 ≤ length caller.old }
     requires command { IsRunCommand (length caller.old) command }
-    ensures line { IfOk result (λ told. DoesLine cluster.old caller.old command told cluster.new caller.new) }
-    ensures part { OnErr result (TellsInPart caller.old command caller.new) }
-    ensures stops { is_fixed cluster.old ≡ false → IfErr result (λ why. StopsBy why command cluster.old caller.old cluster.new caller.new) }
-    ensures on { AllZip HasGoneOn caller.old caller.new }
-    ensures turnstiles { turnstiles caller.new ≡ turnstiles caller.old }
-    ensures cluster { OperatorGoesOn cluster.old.operator cluster.new.operator }
+    ensures { EndsLine cluster.old caller.old command result cluster.new caller.new }
 {
     match command {
         Command::Step { queue, op } => unless_limit(ask(rt, alloc, caller, queue, op)),

@@ -7,7 +7,7 @@ ghost use Rattle.silo_threads.specs.Draining.{HasGoneOn};
 ghost use Rattle.script_runs.specs.Telling.{printed_lines};
 ghost use Rattle.script_runs.specs.Scripts.{IsScript};
 ghost use Rattle.silo_threads.specs.Clusters.{is_fixed};
-ghost use Rattle.script_runs.specs.Runs.{AnswersScript, DoesAll, StopsFront};
+ghost use Rattle.script_runs.specs.Runs.{AnswersScript, EndsLines};
 
 use crate::producer::Answer;
 use crate::reader::{Line, ScriptLine};
@@ -101,11 +101,7 @@ fn do_lines<
     requires script { IsScript (length caller.old) lines.items }
     requires free { is_fixed cluster.old ≡ false }
     requires none { printed.old.items ≡ [] }
-    ensures all { OnOk result (DoesAll lines.items cluster.old caller.old printed.new.items cluster.new caller.new) }
-    ensures front { IfErr result (λ why. StopsFront why lines.items cluster.old caller.old printed.new.items cluster.new caller.new) }
-    ensures on { AllZip HasGoneOn caller.old caller.new }
-    ensures turnstiles { turnstiles caller.new ≡ turnstiles caller.old }
-    ensures cluster { OperatorGoesOn cluster.old.operator cluster.new.operator }
+    ensures { EndsLines lines.items cluster.old caller.old result printed.new.items cluster.new caller.new }
 {
     for line in lines {
         let Line { number, command } = line;
