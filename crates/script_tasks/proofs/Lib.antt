@@ -1,4 +1,3 @@
-mod Checks
-pub mod Running
-mod Summaries
-pub mod Tracing
+mod Running
+mod Tracing
+pub mod Prelude

@@ -147,34 +147,28 @@ WritesText old new text (Ok done) = Appends old new text
 WritesText old new text (Err error.WriteFault) = ⊤
 WritesText old new text (Err _) = ⊥
 
+-- a write failed, or memory ran out
+abbrev pub IsUnwritten : SimError → Type 0
+IsUnwritten error.WriteFault = ⊤
+IsUnwritten error.Memory = ⊤
+IsUnwritten _ = ⊥
+
 -- all of a text was written that is made while it is written
 abbrev pub WritesTraces : Option (List ℕ) → Option (List ℕ) → List ℕ → Result Unit SimError → Type 0
 WritesTraces old new text (Ok done) = Appends old new text
-WritesTraces old new text (Err error.WriteFault) = ⊤
-WritesTraces old new text (Err error.Memory) = ⊤
-WritesTraces old new text (Err _) = ⊥
+WritesTraces old new text (Err e) = IsUnwritten e
 
--- The text of a run was written, or nothing where memory ran out. It ended as the run did.
-abbrev pub WritesRun : {H : Type 0} → Option (List ℕ) → Option (List ℕ) → List ℕ → Result Unit ProgramFault → RunEnd H → Type 0
-WritesRun old new text (Ok done) (ends.Report report traces) = Appends old new text
-WritesRun old new text (Err (fault.Unfinished told)) (ends.Unfinished why left) = (told ≡ why) × Appends old new text
-WritesRun old new text (Err (fault.Script error.WriteFault)) end = ⊤
-WritesRun old new text (Err (fault.Script error.Memory)) end = Keeps old new
-WritesRun old new text _ end = ⊥
+-- how the program ends behind a run
+abbrev pub ended : {H : Type 0} → RunEnd H → Result Unit ProgramFault
+ended (ends.Report report traces) = Ok tt
+ended (ends.Unfinished why left) = Err (fault.Unfinished why)
 
 -- the histories of all queues as they are written
 abbrev pub traces_text : Shown → Traces (AskedHistory Op Reply) → List ℕ
 traces_text shown traces = traces_from (seen shown) 0 (map asked_entries traces.histories.items)
 
--- so are those of a run without a report, of which nothing is written where passes are missing
-abbrev pub text_left : Shown → Option (Traces (AskedHistory Op Reply)) → List ℕ
-text_left shown (Some traces) = traces_text shown traces
-text_left shown None = []
-
--- What a run has left was written. It ended as the run did.
-abbrev pub WritesEnd : Shown → Option (List ℕ) → Option (List ℕ) → RunEnd (AskedHistory Op Reply) → Result Unit ProgramFault → Type 0
-WritesEnd shown old new (ends.Report text traces) (Ok done) = Appends old new (traces_text shown traces)
-WritesEnd shown old new (ends.Unfinished why left) (Err (fault.Unfinished told)) = (told ≡ why) × Appends old new (text_left shown left)
-WritesEnd shown old new end (Err (fault.Script error.WriteFault)) = ⊤
-WritesEnd shown old new end (Err (fault.Script error.Memory)) = ⊤
-WritesEnd shown old new end _ = ⊥
+-- so are those that a run has left, and none where passes are missing
+abbrev pub text_left : Shown → RunEnd (AskedHistory Op Reply) → List ℕ
+text_left shown (ends.Report text traces) = traces_text shown traces
+text_left shown (ends.Unfinished why (Some traces)) = traces_text shown traces
+text_left shown (ends.Unfinished why None) = []

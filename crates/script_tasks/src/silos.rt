@@ -1,16 +1,15 @@
 //! A script that is run on silos.
 ghost use Rattle.std.specs.Prelude.{◌≡◌, ◌-◌, ◌^◌, ◌<◌, false, suc, IfOk, IfSome, if◌then◌else◌};
 ghost use Rattle.turnstile.specs.Asked.{asked_entries};
-ghost use Rattle.script_runs.specs.Traces.{trace_text};
 ghost use Rattle.silo_threads.specs.Clusters.{IsConfig};
-ghost use Rattle.script_runs.specs.Runs.{AreLegal, LeavesLegalTraces, text_of};
-ghost use Rattle.script_tasks.specs.Printing.{IsLegalAt, PrintsRun, PrintsTrace, RunsSource, WritesEnd, WritesRun, WritesText, WritesTraces, is_unread, printed_text, seen, text_left, traces_text};
+ghost use Rattle.script_runs.specs.Runs.{AreLegal, LeavesLegalTraces};
+ghost use Rattle.script_tasks.specs.Printing.{IsLegalAt, PrintsRun, PrintsTrace, RunsSource, WritesText, WritesTraces, ended, is_unread, seen, text_left, traces_text};
 
 use crate::fault::ProgramFault;
 use crate::shown::Shown;
 use crate::summary::{Detail, printed};
 use activation_directory::{DirectoryOp, DirectoryReply};
-use script_runs::{Calls, Ran, RunEnd, Script, queue_trace, read_lines, run, run_text};
+use script_runs::{Ran, RunEnd, Script, queue_trace, read_lines, run, run_text};
 use shared_partition::{Counting, Gate, QueueHistory};
 use silo_threads::{Config, Traces};
 use std::alloc::Global;
@@ -70,7 +69,9 @@ pub(crate) fn run_with_gate<
     ensures counted { R.failures source.new ≡ (if is_unread result then suc (R.failures source.old) else R.failures source.old) }
 {
     let ran = run_source::<G, ProofHistory<Op, Answer>, T, R>(rt, alloc, config, gate, source)?;
-    write_run(alloc, detail, &ran, sink)
+    let text = printed(alloc, detail, run_text(alloc, &ran)?)?;
+    write_text(&text, sink)?;
+    ended(&ran.end)
 }
 
 /// Runs a script on silos, and writes what was done at each queue that is shown as a script that can be simulated, queue by
@@ -98,7 +99,8 @@ pub fn trace_on_silos<T: Threads + Wait + Copy + Send + 'static, R: Source, W: W
     let ran = run_source::<Counting, AskedHistory<Op, Answer>, T, R>(
         rt, alloc, config, gate, source,
     )?;
-    write_end(alloc, config, shown, &ran.end, sink)
+    write_left(alloc, config, shown, &ran.end, sink)?;
+    ended(&ran.end)
 }
 
 /// Reads a script and runs it on silos, with a gate that handles the events.
@@ -128,60 +130,36 @@ fn run_source<
     Ok(run::<G, H, ProofHistory<DirectoryOp, DirectoryReply>, T>(rt, alloc, config, gate, lines)?)
 }
 
-/// Writes what a run prints.
-fn write_run<H, W: Write>(
-    alloc: Global,
-    detail: Detail,
-    ran: &Ran<H>,
-    sink: &mut W,
-) -> Result<(), ProgramFault>
-    ensures written { WritesRun (W.contents sink.old) (W.contents sink.new) (printed_text detail (text_of ran.now)) result ran.now.end }
+/// How the program ends behind a run.
+fn ended<H>(end: &RunEnd<H>) -> Result<(), ProgramFault>
+    ensures exact { result ≡ ended end.now }
     ensures read { is_unread result ≡ false }
 {
-    write_text(&printed(alloc, detail, run_text(alloc, ran)?)?, sink)?;
-    match ran.end {
+    match end {
         RunEnd::Report { .. } => Ok(()),
-        RunEnd::Unfinished { why, .. } => Err(ProgramFault::Unfinished(why)),
+        RunEnd::Unfinished { why, .. } => Err(ProgramFault::Unfinished(*why)),
     }
 }
 
-/// Writes what a run has left, as far as all passes came back.
-fn write_end<W: Write>(
+/// Writes the histories that a run has left, if all passes came back.
+fn write_left<W: Write>(
     alloc: Global,
     config: &Config,
     shown: Shown,
     end: &RunEnd<AskedHistory<Op, Answer>>,
     sink: &mut W,
-) -> Result<(), ProgramFault>
-    requires config { IsConfig config.now }
-    requires legal { LeavesLegalTraces asked_entries config.now end.now }
-    ensures written { WritesEnd shown (W.contents sink.old) (W.contents sink.new) end.now result }
-    ensures read { is_unread result ≡ false }
-{
-    match end {
-        RunEnd::Report { text: _, traces } => Ok(write_traces(alloc, config, shown, traces, sink)?),
-        RunEnd::Unfinished { why, traces } => {
-            write_left(alloc, config, shown, traces, sink)?;
-            Err(ProgramFault::Unfinished(*why))
-        }
-    }
-}
-
-/// Writes the histories of a run without a report, if all passes came back.
-fn write_left<W: Write>(
-    alloc: Global,
-    config: &Config,
-    shown: Shown,
-    left: &Option<Traces<AskedHistory<Op, Answer>>>,
-    sink: &mut W,
 ) -> Result<(), SimError>
     requires config { IsConfig config.now }
-    requires legal { IfSome left.now (λ traces. AreLegal asked_entries config.now traces) }
-    ensures { WritesTraces (W.contents sink.old) (W.contents sink.new) (text_left shown left.now) result }
+    requires legal { LeavesLegalTraces asked_entries config.now end.now }
+    ensures { WritesTraces (W.contents sink.old) (W.contents sink.new) (text_left shown end.now) result }
 {
-    match left {
-        Some(traces) => write_traces(alloc, config, shown, traces, sink),
-        None => Ok(()),
+    match end {
+        RunEnd::Report { traces, .. }
+        | RunEnd::Unfinished {
+            traces: Some(traces),
+            ..
+        } => write_traces(alloc, config, shown, traces, sink),
+        RunEnd::Unfinished { traces: None, .. } => Ok(()),
     }
 }
 
@@ -216,29 +194,13 @@ fn write_seen<W: Write>(
     requires legal { IsLegalAt config.now (asked_entries history.now) }
     ensures { WritesTraces (W.contents sink.old) (W.contents sink.new) (seen shown queue (asked_entries history.now)) result }
 {
-    if shown.sees(queue) {
-        write_trace(alloc, config, shown.calls, queue, history, sink)
-    } else {
-        Ok(())
+    if !shown.sees(queue) {
+        return Ok(());
     }
-}
-
-/// Writes the history of a queue.
-fn write_trace<W: Write>(
-    alloc: Global,
-    config: &Config,
-    calls: Calls,
-    queue: usize,
-    history: &AskedHistory<Op, Answer>,
-    sink: &mut W,
-) -> Result<(), SimError>
-    requires config { IsConfig config.now }
-    requires legal { IsLegalAt config.now (asked_entries history.now) }
-    ensures { WritesTraces (W.contents sink.old) (W.contents sink.new) (trace_text calls queue (asked_entries history.now)) result }
-{
     let mut partition = Partition::new(alloc, config.blocks, config.limits)?;
-    let text = queue_trace(alloc, calls, queue, &mut partition, history)?;
-    write_text(&text, sink)
+    let text = queue_trace(alloc, shown.calls, queue, &mut partition, history)?;
+    write_text(&text, sink)?;
+    Ok(())
 }
 
 /// Writes a text, and hands it on.

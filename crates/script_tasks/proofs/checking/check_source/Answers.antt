@@ -1,19 +1,28 @@
-use Rattle.std.proofs.Common.{List, ℕ, ◌∙◌, ap, subst, sym}
-use Rattle.std.specs.Io.KnownBytes.{Appends}
+use Rattle.script_tasks.proofs.Prelude.{List, [], ◌∷◌, ℕ, Option, Result, ◌∙◌, inr, subst, sym, IfSome_then, Appends}
 use Rattle.stream_script.specs.Lines.{lines_of}
 use Rattle.script_checker.specs.declared.line.LineFault.{LineFault}
 use Rattle.script_checker.specs.Scripts.{HasFound}
-use Rattle.script_tasks.specs.Checking.{EndsCheck}
-use Rattle.script_tasks.proofs.Checks.{check-written}
+use Rattle.script_tasks.specs.declared.fault.ProgramFault.{ProgramFault}
+use Rattle.script_tasks.specs.declared.options.CheckConfig.{CheckConfig}
+use Rattle.script_tasks.specs.Checking.{EndsCheck, PrintsCheck, WritesCheck}
+use Rattle.script_tasks.proofs.Running.{whole-input}
 use Rattle.script_tasks.proofs.checking.check_source.Goals as goal
+
+ends-as : (config : CheckConfig) (script : List ℕ) (old new : Option (List ℕ)) (faults : List LineFault) (result : Result Unit ProgramFault) → EndsCheck faults result
+    → WritesCheck config script old new result → PrintsCheck config script old new result
+ends-as config script old new [] result ends = rw ends (λ writes. writes)
+ends-as config script old new (first ∷ others) result ends = rw ends (λ writes. inr writes)
 
 pub returns-clause-written : goal.returns-clause-written
 returns-clause-written g c =
+    let config = c.args.config in
     let findings = c.in_ok-findings.findings in
     let old = g.W.Write.contents c.args.sink.now in
     let new = g.W.Write.contents c.write_text.new.sink in
-    check-written c.args.config (g.R.Source.remaining c.args.source.now) (g.R.Source.remaining c.read_script.new.source) old new c.in_ok-script.script.items findings c.end_of.result
-    c.in_ok-script.ensures.script
-    (subst (λ (bytes : List ℕ). HasFound c.args.config.queues c.args.config.mode (lines_of bytes) findings) c.deref.ensures.value c.in_ok-findings.ensures)
-    (subst (Appends old new) (c.as_bytes.ensures.value ∙ c.in_ok-text.ensures) c.in_ok-write_text.ensures)
-    (subst (λ (faults : List LineFault). EndsCheck faults c.end_of.result) c.deref-2.ensures.value c.end_of.ensures)
+    let remaining = g.R.Source.remaining c.args.source.now in
+    let read = c.in_ok-script.ensures.script in
+    let writes = subst (Appends old new) (c.as_bytes.ensures.value ∙ c.in_ok-text.ensures) c.in_ok-write_text.ensures in
+    let ends = subst (λ (faults : List LineFault). EndsCheck faults c.end_of.result) c.deref-2.ensures.value c.end_of.ensures in
+    IfSome_then remaining (whole-input remaining (g.R.Source.remaining c.read_script.new.source) c.in_ok-script.script.items read.0 read.1) (λ input all.
+    let found = subst (λ (bytes : List ℕ). HasFound config.queues config.mode (lines_of bytes) findings) (c.deref.ensures.value ∙ sym all) c.in_ok-findings.ensures in
+    ends-as config input old new findings.faults.items c.end_of.result ends (findings, found, writes, ends))

@@ -1,4 +1,4 @@
-use Rattle.std.proofs.Common.{length}
+use Rattle.script_tasks.proofs.Prelude.{length}
 use Rattle.script_tasks.proofs.progress.lines_in.Given as goal
 
 abbrev pub decreases-loop-count : goal.decreases-loop-count

@@ -1,5 +1,14 @@
-use Rattle.script_tasks.proofs.Tracing.{trace-known}
+use Rattle.script_tasks.proofs.Prelude.{subst, sym, IfSome_then}
+use Rattle.script_tasks.specs.Printing.{PrintsTrace}
+use Rattle.script_tasks.proofs.Running.{trace-printed}
 use Rattle.script_tasks.proofs.silos.trace_on_silos.Goals as goal
 
 pub returns-clause-written : goal.returns-clause-written
-returns-clause-written g c = trace-known c.args.config.now c.args.shown (g.R.Source.remaining c.args.source.now) (g.W.Write.contents c.args.sink.now) (g.W.Write.contents c.write_end.new.sink) c.in_ok-ran.ran c.write_end.result c.in_ok-ran.ensures.source c.in_ok-ran.ensures.legal c.write_end.ensures.written
+returns-clause-written g c =
+    let config = c.args.config.now in
+    let ran = c.in_ok-ran.ran in
+    let old = g.W.Write.contents c.args.sink.now in
+    let new = g.W.Write.contents c.write_left.new.sink in
+    IfSome_then (g.R.Source.remaining c.args.source.now) c.in_ok-ran.ensures.source (λ input runs.
+    subst (PrintsTrace config c.args.shown input old new) (sym c.ended.ensures.exact)
+    (trace-printed config input old new runs.0 ran.printed.items runs.1 c.args.shown ran.end runs.2 c.in_ok-ran.ensures.legal c.in_ok-write_left.ensures))

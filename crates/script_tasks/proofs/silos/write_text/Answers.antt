@@ -1,4 +1,4 @@
-use Rattle.std.proofs.KnownBytes.{Appends-kept}
+use Rattle.script_tasks.proofs.Prelude.{Appends-kept}
 use Rattle.script_tasks.proofs.silos.write_text.Goals as goal
 
 pub returns-in-Ok : goal.returns-in-Ok

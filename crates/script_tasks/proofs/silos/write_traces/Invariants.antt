@@ -1,6 +1,4 @@
-use Rattle.std.proofs.Common.{map, take}
-use Rattle.std.specs.Io.KnownBytes.{Appends}
-use Rattle.turnstile.specs.Asked.{asked_entries}
+use Rattle.script_tasks.proofs.Prelude.{map, take, Appends, asked_entries}
 use Rattle.script_runs.specs.Traces.{traces_from}
 use Rattle.script_tasks.specs.Printing.{seen}
 use Rattle.script_tasks.proofs.silos.write_traces.Given as goal

@@ -1,5 +1,4 @@
-use Rattle.std.proofs.Common.{◌≡◌, ◌++◌, length}
-use Rattle.std.specs.List.{flat_map}
+use Rattle.script_tasks.proofs.Prelude.{◌≡◌, ◌++◌, length, flat_map}
 use Rattle.script_tasks.specs.Printing.{kept_line, without_events}
 use Rattle.script_tasks.proofs.summary.without_events.Given as goal
 
