@@ -12,7 +12,7 @@ use Rattle.turnstile.specs.declared.history.Entry.{Entry}
 use Rattle.turnstile.specs.declared.view.Held.{Held}
 use Rattle.turnstile.specs.declared.view.Start.{Start}
 use Rattle.turnstile.specs.declared.view.View.{View}
-use Rattle.turnstile.specs.History.{times, total, replay, IsLegal, Foreign, Own}
+use Rattle.turnstile.specs.History.{times, total, replay, IsLegal, Foreign, Own, Claims}
 use Rattle.turnstile.specs.Plays.{Told}
 use Rattle.turnstile.specs.Turns.{AllClaim, opening_view, spent_view, unnumbered, joined, Knows, Out, AtHome, Stands}
 use Rattle.turnstile.proofs.Histories.{legal_snoc, drawn_snoc, drawn_more, foreign_none, foreign_fresh, foreign_front, foreign_tail, own_drawn, own_foreign, claims_same, claims_extend, claims_longer, all_claim_extend}
@@ -67,6 +67,18 @@ module _ {X H S O R : Type 0} (entries : H → List (Entry O R)) (state : X → 
   abbrev Knower : ℕ → ℕ → Log → View S O R → Type 0
   Knower = Knows start
 
+  -- what a view knows whose turn has not come
+  waiting : (p s : ℕ) (log : Log) (v : View S O R) → ((x : Start S) → v.start ≡ Some x → x ≡ start) → v.come ≡ false → v.made ≤ p → length v.tickets ≤ length v.numbers → Claims v.numbers v.seen log → AllClaim v.numbers v.past log
+      → Knower p s log v
+  waiting p s log v begins idle made fits seen past = record {
+    begins = begins;
+    made = made;
+    fits = fits;
+    seen = seen;
+    past = past;
+    come = λ turn. absurd (both_ways v.come idle turn);
+  }
+
   -- a view changes that has not its turn; with it a number or a ticket may be drawn
   changes : (p q d e s : ℕ) (log : Log) (homes : Homes) (views : Views) (id : ℕ) (v w : View S O R) → get_elem? views id ≡ maybe.some v → v.come ≡ false → p ≤ q → q ≤ 2 ^ 32
       → Out numbers_in 0 q (set views id w) → Out tickets_in s e (set views id w) → Knower q s log w → Rule p d s log homes views → Rule q e s log homes (set views id w)
@@ -95,14 +107,8 @@ module _ {X H S O R : Type 0} (entries : H → List (Entry O R)) (state : X → 
       changes p p d d s log homes views id v w at idle (omega arith) st.few (out_same numbers_in 0 p views id v w at numbers st.numbers) (out_same tickets_in s d views id v w at tickets st.tickets) knows st
 
   first_knows : (j : ℕ) (v : View S O R) → get_elem? (opening_view start ∷ []) j ≡ maybe.some v → Knower 1 0 [] v
-  first_knows zero v e = subst (Knower 1 0 []) (some-injective (opening_view start) v e) record {
-    begins = λ x is. sym (same_Some start x is);
-    made = omega arith;
-    fits = omega arith;
-    seen = claims_same (0 ∷ []) [] [] refl;
-    past = tt;
-    come = λ turn. absurd (false≢true turn);
-  }
+  first_knows zero v e = subst (Knower 1 0 []) (some-injective (opening_view start) v e)
+      (waiting 1 0 [] (opening_view start) (λ x is. sym (same_Some start x is)) refl (omega arith) (omega arith) (claims_same (0 ∷ []) [] [] refl) tt)
   first_knows (suc j) v e = absurd (maybe.some-ne-none v (sym e))
 
   pub made : (held : Held X H) → entries held.history ≡ [] → state held.object ≡ start.state → Rule 1 0 0 [] (maybe.some (Some held) ∷ []) (opening_view start ∷ [])
@@ -122,14 +128,8 @@ module _ {X H S O R : Type 0} (entries : H → List (Entry O R)) (state : X → 
   drawn p d s log homes views id v at none idle some st =
       let w : View S O R = record v { tickets = d ∷ [] } in
       let k = st.each id v at in
-      changes p p d (d + 1) s log homes views id v w at idle (omega arith) st.few (out_same numbers_in 0 p views id v w at refl st.numbers) (out_more tickets_in s d views id v w at none refl st.tickets) record {
-        begins = k.begins;
-        made = k.made;
-        fits = omega (arith, some);
-        seen = k.seen;
-        past = k.past;
-        come = λ turn. absurd (both_ways v.come idle turn);
-      } st
+      changes p p d (d + 1) s log homes views id v w at idle (omega arith) st.few (out_same numbers_in 0 p views id v w at refl st.numbers) (out_more tickets_in s d views id v w at none refl st.tickets)
+      (waiting p s log w k.begins idle k.made (omega (arith, some)) k.seen k.past) st
 
   -- where this ticket is served, nobody has its turn
   nobody : (p d s : ℕ) (log : Log) (homes : Homes) (views : Views) (id : ℕ) (v : View S O R) → get_elem? views id ≡ maybe.some v → v.tickets ≡ s ∷ [] → v.come ≡ false → Rule p d s log homes views
@@ -198,21 +198,8 @@ module _ {X H S O R : Type 0} (entries : H → List (Entry O R)) (state : X → 
         bounded = st.bounded;
         numbers = out_same numbers_in 0 p views id v w at refl st.numbers;
         tickets = out_less tickets_in s d views id v w at mine.0 refl st.tickets;
-        each = each_set (Knower p (s + 1) log) views id w record {
-          begins = k.begins;
-          made = k.made;
-          fits = omega arith;
-          seen = k.seen;
-          past = k.past;
-          come = λ too. absurd (false≢true too);
-        } (λ j u other there. let o = st.each j u there in record {
-          begins = o.begins;
-          made = o.made;
-          fits = o.fits;
-          seen = o.seen;
-          past = o.past;
-          come = λ too. absurd (both_ways u.come (others_wait p d s log homes views id v at turn st j u other there) too);
-        });
+        each = each_set (Knower p (s + 1) log) views id w (waiting p (s + 1) log w k.begins refl k.made (omega arith) k.seen k.past)
+            (λ j u other there. let o = st.each j u there in waiting p (s + 1) log u o.begins (others_wait p d s log homes views id v at turn st j u other there) o.made o.fits o.seen o.past);
         home = λ _. record {
           held = held;
           is = set_only homes (maybe.some (Some held)) one;
@@ -250,14 +237,9 @@ module _ {X H S O R : Type 0} (entries : H → List (Entry O R)) (state : X → 
             let o = st.each j u there in
             let alien : times e.number u.numbers ≡ 0 =
             omega (arith, total_two (often numbers_in e.number) views id j v u spent_view refl (λ same. other (sym same)) at there, out_single numbers_in 0 p views st.numbers e.number, own) in
-            record {
-              begins = o.begins;
-              made = o.made;
-              fits = o.fits;
-              seen = claims_extend u.numbers u.seen log (e ∷ []) o.seen (absent-times u.numbers e.number alien, tt);
-              past = all_claim_extend u.numbers u.past log (e ∷ []) (absent-times u.numbers e.number alien, tt) o.past;
-              come = λ too. absurd (both_ways u.come (others_wait p d s log homes views id v at turn st j u other there) too);
-            });
+            let new : Foreign u.numbers (e ∷ []) = (absent-times u.numbers e.number alien, tt) in
+            waiting p s (log ++ e ∷ []) u o.begins (others_wait p d s log homes views id v at turn st j u other there) o.made o.fits
+            (claims_extend u.numbers u.seen log (e ∷ []) o.seen new) (all_claim_extend u.numbers u.past log (e ∷ []) new o.past));
         home = λ none. absurd (both_ways v.come (none id w (set_at views id v w at)) turn);
       }
 
@@ -266,27 +248,13 @@ module _ {X H S O R : Type 0} (entries : H → List (Entry O R)) (state : X → 
       → Rule p d s log homes views → Rule p d s log homes (set views id (record v { made = p }))
   count p d s log homes views id v at idle st =
       let k = st.each id v at in
-      quiet p d s log homes views id v (record v { made = p }) at refl refl idle record {
-        begins = k.begins;
-        made = omega arith;
-        fits = k.fits;
-        seen = k.seen;
-        past = k.past;
-        come = λ turn. absurd (both_ways v.come idle turn);
-      } st
+      quiet p d s log homes views id v (record v { made = p }) at refl refl idle (waiting p s log (record v { made = p }) k.begins idle (omega arith) k.fits k.seen k.past) st
 
   pub tell : (p d s : ℕ) (log : Log) (homes : Homes) (views : Views) (id : ℕ) (v : View S O R) → get_elem? views id ≡ maybe.some v → v.come ≡ false
       → Rule p d s log homes views → Rule p d s log homes (set views id (record v { past = [] }))
   tell p d s log homes views id v at idle st =
       let k = st.each id v at in
-      quiet p d s log homes views id v (record v { past = [] }) at refl refl idle record {
-        begins = k.begins;
-        made = k.made;
-        fits = k.fits;
-        seen = k.seen;
-        past = tt;
-        come = λ turn. absurd (both_ways v.come idle turn);
-      } st
+      quiet p d s log homes views id v (record v { past = [] }) at refl refl idle (waiting p s log (record v { past = [] }) k.begins idle k.made k.fits k.seen tt) st
 
   pub tells : (p d s : ℕ) (log : Log) (homes : Homes) (views : Views) (id : ℕ) (v : View S O R) → get_elem? views id ≡ maybe.some v → Rule p d s log homes views → Told v
   tells p d s log homes views id v at st =
@@ -311,14 +279,10 @@ module _ {X H S O R : Type 0} (entries : H → List (Entry O R)) (state : X → 
         bounded = st.bounded;
         numbers = out_snoc numbers_in 0 p views (unnumbered v) refl st.numbers;
         tickets = out_snoc tickets_in s d views (unnumbered v) refl st.tickets;
-        each = λ j u there. ⊎_elim (λ here. st.each j u here) (λ (e : unnumbered v ≡ u). subst (Knower p s log) e record {
-          begins = k.begins;
-          made = k.made;
-          fits = omega arith;
-          seen = record { rest = k.seen.rest; is = k.seen.is; foreign = foreign_none k.seen.rest };
-          past = tt;
-          come = λ turn. absurd (false≢true turn);
-        }) (at_snoc views (unnumbered v) u j there);
+        each = λ j u there. ⊎_elim (λ here. st.each j u here)
+            (λ (e : unnumbered v ≡ u). subst (Knower p s log) e
+            (waiting p s log (unnumbered v) k.begins refl k.made (omega arith) (record { rest = k.seen.rest; is = k.seen.is; foreign = foreign_none k.seen.rest }) tt))
+            (at_snoc views (unnumbered v) u j there);
         home = λ none. st.home (λ j u there. none j u (at_longer views (unnumbered v ∷ []) j u there));
       }
 
@@ -328,14 +292,9 @@ module _ {X H S O R : Type 0} (entries : H → List (Entry O R)) (state : X → 
   number p d s log homes views id v at none free past idle few st =
       let w : View S O R = record v { numbers = p ∷ []; made = p + 1 } in
       let k = st.each id v at in
-      changes p (p + 1) d d s log homes views id v w at idle (omega arith) (omega (arith, few)) (out_more numbers_in 0 p views id v w at none refl st.numbers) (out_same tickets_in s d views id v w at refl st.tickets) record {
-        begins = k.begins;
-        made = omega arith;
-        fits = omega (arith, ap length free);
-        seen = record { rest = k.seen.rest; is = k.seen.is; foreign = foreign_tail (p ∷ []) v.seen k.seen.rest (subst (Foreign (p ∷ [])) k.seen.is (foreign_fresh p log st.known)) };
-        past = subst (λ cs. AllClaim (p ∷ []) cs log) (sym past) tt;
-        come = λ turn. absurd (both_ways v.come idle turn);
-      } st
+      changes p (p + 1) d d s log homes views id v w at idle (omega arith) (omega (arith, few)) (out_more numbers_in 0 p views id v w at none refl st.numbers) (out_same tickets_in s d views id v w at refl st.tickets)
+      (waiting (p + 1) s log w k.begins idle (omega arith) (omega (arith, ap length free))
+      (record { rest = k.seen.rest; is = k.seen.is; foreign = foreign_tail (p ∷ []) v.seen k.seen.rest (subst (Foreign (p ∷ [])) k.seen.is (foreign_fresh p log st.known)) }) (subst (λ cs. AllClaim (p ∷ []) cs log) (sym past) tt)) st
 
   -- no entry that a seat has seen has a number that is not drawn yet
   pub unseen : (p d s : ℕ) (log : Log) (homes : Homes) (views : Views) (id : ℕ) (v : View S O R) → get_elem? views id ≡ maybe.some v → Rule p d s log homes views → Foreign (p ∷ []) v.seen
@@ -349,22 +308,11 @@ module _ {X H S O R : Type 0} (entries : H → List (Entry O R)) (state : X → 
       let before : get_elem? views other ≡ maybe.some w = sym (set_else views id other (joined v w) apart) ∙ there in
       let k = st.each id v at in
       let o = st.each other w before in
-      let knows : Knower p s log (joined v w) = record {
-        begins = k.begins;
-        made = omega (arith, k.made, o.made);
-        fits = omega (arith, k.fits, length-append v.numbers w.numbers);
-        seen = claims_longer v.numbers w.numbers v.seen w.seen log k.seen o.seen;
-        past = ((λ n. omega (arith, times-append n v.numbers w.numbers)), k.seen, ((λ n. omega (arith, times-append n v.numbers w.numbers)), o.seen, tt));
-        come = λ turn. absurd (both_ways v.come idle turn);
-      } in
-      let spent : Knower p s log spent_view = record {
-        begins = λ x is. absurd (none-some x is);
-        made = omega arith;
-        fits = omega arith;
-        seen = record { rest = log; is = refl; foreign = foreign_none log };
-        past = tt;
-        come = λ turn. absurd (false≢true turn);
-      } in
+      let knows : Knower p s log (joined v w) =
+      waiting p s log (joined v w) k.begins idle (omega (arith, k.made, o.made)) (omega (arith, k.fits, length-append v.numbers w.numbers)) (claims_longer v.numbers w.numbers v.seen w.seen log k.seen o.seen)
+      ((λ n. omega (arith, times-append n v.numbers w.numbers)), k.seen, ((λ n. omega (arith, times-append n v.numbers w.numbers)), o.seen, tt)) in
+      let spent : Knower p s log spent_view =
+      waiting p s log spent_view (λ x is. absurd (none-some x is)) refl (omega arith) (omega arith) (record { rest = log; is = refl; foreign = foreign_none log }) tt in
       record {
         few = st.few;
         legal = st.legal;
