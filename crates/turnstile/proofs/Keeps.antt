@@ -126,11 +126,12 @@ module _ {X H S O R : Type 0} (entries : H → List (Entry O R)) (state : X → 
 
   pub counts : (slots id : ℕ) (m : M) → m.0.come ≡ false → Allows Holds slots id m 0 (λ n. n) (counted any_step m)
   counts slots id m idle = moves slots id m 0 (λ n. n) (counted any_step m) (λ p d s log homes views rule len at.
-      stays id m 0 (λ n. n) (counted any_step m) p d s log homes views (words_of p d s log) (record m.0 { made = p }) refl (stands.count entries state reply after start p d s log homes views id m.0 at idle rule) (refl, (rule.each id m.0 at).made))
+      let k = rule.each id m.0 at in
+      stays id m 0 (λ n. n) (counted any_step m) p d s log homes views (words_of p d s log) (record m.0 { made = p }) refl (stands.quiet entries state reply after start p d s log homes views id m.0 p m.0.past at idle (omega arith) k.past rule) (refl, k.made))
 
   pub tells : (slots id : ℕ) (m : M) → m.0.come ≡ false → Allows Holds slots id m 0 (λ n. n) (told any_step m)
   tells slots id m idle = moves slots id m 0 (λ n. n) (told any_step m) (λ p d s log homes views rule len at.
-      stays id m 0 (λ n. n) (told any_step m) p d s log homes views (words_of p d s log) (record m.0 { past = [] }) refl (stands.tell entries state reply after start p d s log homes views id m.0 at idle rule)
+      stays id m 0 (λ n. n) (told any_step m) p d s log homes views (words_of p d s log) (record m.0 { past = [] }) refl (stands.quiet entries state reply after start p d s log homes views id m.0 m.0.made [] at idle (rule.each id m.0 at).made tt rule)
       (refl, stands.tells entries state reply after start p d s log homes views id m.0 at rule))
 
   -- a seat that was split off has no number yet
@@ -138,6 +139,7 @@ module _ {X H S O R : Type 0} (entries : H → List (Entry O R)) (state : X → 
       → Allows Holds slots id m 0 (λ n. either (eqb n old) (old + 1) n) (numbered (step 0 0 old 0 maybe.none) m)
   draws_first slots id m v old is few = moves slots id m 0 (λ n. either (eqb n old) (old + 1) n) (numbered (step 0 0 old 0 maybe.none) m) (λ p d s log homes views rule len at.
       let idle : m.0.come ≡ false = ap (λ (n : M). n.0.come) is in
+      let k = rule.each id m.0 at in
       dite (ℕ_discrete p old)
       (λ same. stays id m 0 (λ n. either (eqb n old) (old + 1) n) (numbered (step 0 0 old 0 maybe.none) m) (p + 1) d s log homes views (words_of p d s log) (record m.0 { numbers = p ∷ []; made = p + 1 })
       (ap (λ (n : ℕ). n ∷ (d % 18446744073709551616) ∷ (s % 18446744073709551616) ∷ length log ∷ []) (ap (λ (b : Bool). either b (old + 1) p) (eq-eqb p old same) ∙ ap (λ (n : ℕ). n + 1) (sym same)))
@@ -145,8 +147,8 @@ module _ {X H S O R : Type 0} (entries : H → List (Entry O R)) (state : X → 
       ((λ _. (refl, stands.unseen entries state reply after start p d s log homes views id m.0 at rule)), (λ other. absurd (other same))))
       (λ other. stays id m 0 (λ n. either (eqb n old) (old + 1) n) (numbered (step 0 0 old 0 maybe.none) m) p d s log homes views (words_of p d s log) (record m.0 { made = p })
       (ap (λ (n : ℕ). n ∷ (d % 18446744073709551616) ∷ (s % 18446744073709551616) ∷ length log ∷ []) (ap (λ (b : Bool). either b (old + 1) p) (ne_eqb p old other)))
-      (stands.count entries state reply after start p d s log homes views id m.0 at idle rule)
-      ((λ same. absurd (other same)), (λ _. (refl, omega (arith, (rule.each id m.0 at).made, ap (λ (n : M). n.0.made) is, other))))))
+      (stands.quiet entries state reply after start p d s log homes views id m.0 p m.0.past at idle (omega arith) k.past rule)
+      ((λ same. absurd (other same)), (λ _. (refl, omega (arith, k.made, ap (λ (n : M). n.0.made) is, other))))))
 
   pub splits : (id : ℕ) (v : View S O R) → v.come ≡ false → Splits Holds id v v (unnumbered v)
   splits id v idle s h at = holds_at h.passes h.drawn h.serving h.log s.homes _ s.words h.words (rw (set_again s.views id v at) (stands.split entries state reply after start h.passes h.drawn h.serving h.log s.homes s.views id v at idle h.stands))

@@ -9,6 +9,7 @@ use native.Mathlib.Decide.{ℕ_discrete, dec_le}
 use lib.ListN.{get_elem?}
 use Rattle.atomic_table.proofs.Lists.{at_set, at_snoc, at_longer, set_else, one_turn}
 use Rattle.turnstile.specs.declared.history.Entry.{Entry}
+use Rattle.turnstile.specs.declared.view.Claim.{Claim}
 use Rattle.turnstile.specs.declared.view.Held.{Held}
 use Rattle.turnstile.specs.declared.view.Start.{Start}
 use Rattle.turnstile.specs.declared.view.View.{View}
@@ -99,12 +100,6 @@ module _ {X H S O R : Type 0} (entries : H → List (Entry O R)) (state : X → 
     });
     home = λ none. st.home (home_back views id v w at idle none);
   }
-
-  -- it changes, and keeps its numbers and tickets
-  quiet : (p d s : ℕ) (log : Log) (homes : Homes) (views : Views) (id : ℕ) (v w : View S O R) → get_elem? views id ≡ maybe.some v → w.numbers ≡ v.numbers → w.tickets ≡ v.tickets → v.come ≡ false
-      → Knower p s log w → Rule p d s log homes views → Rule p d s log homes (set views id w)
-  quiet p d s log homes views id v w at numbers tickets idle knows st =
-      changes p p d d s log homes views id v w at idle (omega arith) st.few (out_same numbers_in 0 p views id v w at numbers st.numbers) (out_same tickets_in s d views id v w at tickets st.tickets) knows st
 
   first_knows : (j : ℕ) (v : View S O R) → get_elem? (opening_view start ∷ []) j ≡ maybe.some v → Knower 1 0 [] v
   first_knows zero v e = subst (Knower 1 0 []) (some-injective (opening_view start) v e)
@@ -243,18 +238,14 @@ module _ {X H S O R : Type 0} (entries : H → List (Entry O R)) (state : X → 
         home = λ none. absurd (both_ways v.come (none id w (set_at views id v w at)) turn);
       }
 
-  -- the passes that were made are counted
-  pub count : (p d s : ℕ) (log : Log) (homes : Homes) (views : Views) (id : ℕ) (v : View S O R) → get_elem? views id ≡ maybe.some v → v.come ≡ false
-      → Rule p d s log homes views → Rule p d s log homes (set views id (record v { made = p }))
-  count p d s log homes views id v at idle st =
+  -- the count of passes that it knows changes, or what it claimed before
+  pub quiet : (p d s : ℕ) (log : Log) (homes : Homes) (views : Views) (id : ℕ) (v : View S O R) (known : ℕ) (claims : List (Claim O R)) → get_elem? views id ≡ maybe.some v → v.come ≡ false → known ≤ p → AllClaim v.numbers claims log
+      → Rule p d s log homes views → Rule p d s log homes (set views id (record v { made = known; past = claims }))
+  quiet p d s log homes views id v known claims at idle few hold st =
+      let w : View S O R = record v { made = known; past = claims } in
       let k = st.each id v at in
-      quiet p d s log homes views id v (record v { made = p }) at refl refl idle (waiting p s log (record v { made = p }) k.begins idle (omega arith) k.fits k.seen k.past) st
-
-  pub tell : (p d s : ℕ) (log : Log) (homes : Homes) (views : Views) (id : ℕ) (v : View S O R) → get_elem? views id ≡ maybe.some v → v.come ≡ false
-      → Rule p d s log homes views → Rule p d s log homes (set views id (record v { past = [] }))
-  tell p d s log homes views id v at idle st =
-      let k = st.each id v at in
-      quiet p d s log homes views id v (record v { past = [] }) at refl refl idle (waiting p s log (record v { past = [] }) k.begins idle k.made k.fits k.seen tt) st
+      changes p p d d s log homes views id v w at idle (omega arith) st.few (out_same numbers_in 0 p views id v w at refl st.numbers) (out_same tickets_in s d views id v w at refl st.tickets)
+      (waiting p s log w k.begins idle few k.fits k.seen hold) st
 
   pub tells : (p d s : ℕ) (log : Log) (homes : Homes) (views : Views) (id : ℕ) (v : View S O R) → get_elem? views id ≡ maybe.some v → Rule p d s log homes views → Told v
   tells p d s log homes views id v at st =
