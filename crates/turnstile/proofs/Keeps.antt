@@ -1,5 +1,5 @@
 -- Each step on the words of a turnstile keeps its rule, and tells what it says.
-use Rattle.std.proofs.Common.{◌≡◌, ℕ, ◌+◌, ◌%◌, ◌<◌, ◌≤◌, eqb, eq-eqb, ne_eqb, Bool, true, false, List, [], ◌∷◌, ◌++◌, length, get_or, set, Option, Some, refl, sym, ap, ◌∙◌, subst, arith}
+use Rattle.std.proofs.Common.{◌≡◌, ℕ, ◌+◌, ◌%◌, ◌<◌, ◌≤◌, eqb, eq-eqb, ne_eqb, Bool, true, false, List, [], ◌∷◌, ◌++◌, length, get_or, set, drop, Option, Some, refl, sym, ap, ◌∙◌, subst, arith}
 use Rattle.std.proofs.lemmas.Option.{same_Some}
 use Rattle.std.proofs.Math.Nat.{mod-add-mod}
 use mathlib.Core.Logic.{dite}
@@ -8,13 +8,16 @@ use mathlib.Core.Option.{some-injective}
 use native.Mathlib.Decide.{ℕ_discrete}
 use lib.ListN.{get_elem?}
 use prog.Atomic.{either}
+use Rattle.atomic_table.specs.Seated.{TableId}
 use Rattle.atomic_table.specs.Table.{State, Step, step, Act, keeps, takes, gives, put_back, homes_after, carried_after, Valid, Allows, Splits, Joins, opening, Final, Seen}
 use Rattle.atomic_table.proofs.Lists.{set_again}
 use Rattle.turnstile.specs.declared.history.Entry.{Entry}
 use Rattle.turnstile.specs.declared.view.Held.{Held}
 use Rattle.turnstile.specs.declared.view.Start.{Start}
 use Rattle.turnstile.specs.declared.view.View.{View}
-use Rattle.turnstile.specs.History.{times, replay, IsLegal, Own, Claims}
+use Rattle.turnstile.specs.Closing.{IsTrace}
+use Rattle.turnstile.specs.History.{times, replay, Own, Claims}
+use Rattle.turnstile.specs.Passes.{pass_view}
 use Rattle.turnstile.specs.Plays.{Sat, items_of, first_of, drew, looked, noted, left, numbered, counted, told}
 use Rattle.turnstile.specs.Turns.{opening_view, spent_view, unnumbered, joined, AtHome, Stands, Turning}
 use Rattle.turnstile.proofs.Stands as stands
@@ -161,31 +164,24 @@ module _ {X H S O R : Type 0} (entries : H → List (Entry O R)) (state : X → 
   pub joins_back : (id other : ℕ) (v : View S O R) (m : M) (u : View S O R) (old : ℕ) → v.come ≡ false → m ≡ (record (unnumbered u) { made = old }, []) → Joins Holds id v other m.0 (joined v m.0) spent_view
   joins_back id other v m u old idle is = joins id other v m.0 idle (ap (λ (n : M). n.0.tickets) is) (ap (λ (n : M). n.0.come) is)
 
-  -- what the last look at a table shows, where all numbers are this seat's
-  pub record Shows (v : View S O R) (held : Held X H) : Type 0 where
-    pub whole : entries held.history ≡ v.seen
-    pub legal : IsLegal reply after start.state (entries held.history)
-    pub object : state held.object ≡ replay reply after start.state (entries held.history)
-    pub bounded : length (entries held.history) ≤ start.limit
-    pub own : Own v.numbers (entries held.history)
-    pub differ : (k : ℕ) → times k v.numbers ≤ 1
-    pub most : v.made ≤ length v.numbers
-
-  pub shows : (id : ℕ) (v : View S O R) (ws : List ℕ) (xs : List Slot) (all : ℕ) (held : Held X H) → Final (Seen Holds id v) ws xs
-      → get_elem? ws 0 ≡ maybe.some all → get_elem? xs 0 ≡ maybe.some (Some held) → v.tickets ≡ [] → all ≤ length v.numbers → Shows v held
-  shows id v ws xs all held final first here idle few =
+  -- what the last look at a table shows of a pass that has all numbers
+  pub shows : (z : TableId) (id : ℕ) (v : View S O R) (k : ℕ) (ws : List ℕ) (xs : List Slot) (all : ℕ) (held : Held X H) → Final (Seen Holds id v) ws xs
+      → get_elem? ws 0 ≡ maybe.some all → get_elem? xs 0 ≡ maybe.some (Some held) → v.tickets ≡ [] → v.numbers ≡ k ∷ drop 1 v.numbers → all ≤ length v.numbers
+      → IsTrace reply after state start (pass_view z v k) (entries held.history) held.object
+  shows z id v k ws xs all held final first here idle named few =
       let h = final.1.0 in
       let p_is : h.passes ≡ all = some-injective h.passes all (sym (ap (λ (l : List ℕ). get_elem? l 0) (sym final.2 ∙ h.words)) ∙ first) in
       let e = stands.ended entries state reply after start h.passes h.drawn h.serving h.log final.0.homes final.0.views id v final.1.1 idle (omega (arith, p_is, few)) h.stands in
       let home : AtHome entries state reply after start final.0.homes h.log = e.home in
       let same : home.held ≡ held = same_Some home.held held (some-injective (Some home.held) (Some held) (sym (final.4 0 (Some home.held) (ap (λ (hs : Homes). get_elem? hs 0) home.is)) ∙ here)) in
       let history : entries held.history ≡ h.log = ap (λ (z : Held X H). entries z.history) (sym same) ∙ home.history in
-      record {
-        whole = history ∙ sym e.whole;
-        legal = subst (IsLegal reply after start.state) (sym history) e.legal;
-        object = ap (λ (z : Held X H). state z.object) (sym same) ∙ (home.object ∙ ap (replay reply after start.state) (sym history));
-        bounded = subst (λ (l : Log). length l ≤ start.limit) (sym history) e.bounded;
-        own = subst (Own v.numbers) (sym history) e.own;
-        differ = e.differ;
-        most = omega (arith, (h.stands.each id v final.1.1).made, p_is, few);
+      let most : v.made ≤ length v.numbers = omega (arith, (h.stands.each id v final.1.1).made, p_is, few) in
+      rw history record {
+        whole = sym e.whole;
+        legal = h.stands.legal;
+        object_is = ap (λ (z : Held X H). state z.object) (sym same) ∙ home.object;
+        bounded = h.stands.bounded;
+        own = subst (λ (l : List ℕ). Own l h.log) named e.own;
+        differ = subst (λ (l : List ℕ). (n : ℕ) → times n l ≤ 1) named e.differ;
+        most = subst (λ (l : List ℕ). v.made ≤ length l) named most;
       }

@@ -1,5 +1,5 @@
 -- The phases of a call, over the bare seat: what each asks of the one before, and what they come to.
-use Rattle.std.proofs.Common.{◌≡◌, ◌≢◌, ℕ, ◌+◌, ◌%◌, ◌<◌, ◌≤◌, Bool, true, false, if◌then◌else◌, List, [], ◌∷◌, ◌++◌, length, drop, Option, Some, None, refl, sym, ap, ◌∙◌, subst, arith, length-append}
+use Rattle.std.proofs.Common.{◌≡◌, ◌≢◌, ℕ, ◌+◌, ◌%◌, ◌<◌, Bool, true, false, if◌then◌else◌, List, [], ◌∷◌, ◌++◌, length, drop, Option, Some, None, refl, sym, ap, ◌∙◌, subst, arith, length-append}
 use Rattle.std.proofs.lemmas.Option.{none-some, same_Some}
 use Rattle.std.specs.Option.{IsSome}
 use Rattle.atomic_table.specs.Seated.{TableId}
@@ -9,13 +9,12 @@ use Rattle.turnstile.specs.declared.view.Held.{Held}
 use Rattle.turnstile.specs.declared.view.Start.{Start}
 use Rattle.turnstile.specs.declared.view.View.{View}
 use Rattle.turnstile.specs.Calls.{IsOf, IsTurn}
-use Rattle.turnstile.specs.Closing.{IsTrace}
-use Rattle.turnstile.specs.History.{times, replay, Own, entry}
+use Rattle.turnstile.specs.History.{times, replay, entry}
 use Rattle.turnstile.specs.Plays.{Sat, first_of, looked, Turn, left, Begun, MayLeave, MayNote, Applied, gone}
 use Rattle.turnstile.specs.Passes.{Origin, PassView, opened, origin, pass_view, turn_view}
 use Rattle.turnstile.specs.Turns.{Turning}
 use Rattle.turnstile.proofs.Histories.{legal_snoc, replay_snoc}
-use Rattle.turnstile.proofs.Keeps.{any_step, looks, serves, Shows}
+use Rattle.turnstile.proofs.Keeps.{any_step, looks, serves}
 use Rattle.turnstile.proofs.Totals.{times_same}
 
 module _ {S : Type 0} where
@@ -141,15 +140,3 @@ module _ {X H S O R : Type 0} (entries : H → List (Entry O R)) (state : X → 
         object = ap (λ (s : S). Some s) (did.2 ∙ (ap (λ (s : S). after s op) object ∙ (sym (replay_snoc reply after t.start.state p.seen (entry k op r)) ∙ ap (replay reply after t.start.state) (sym longer))));
         bounded = omega (arith, ap length longer ∙ length-append p.seen (entry k op r ∷ []), ap length turn.whole, room);
       }
-
-  -- what the last look at a table shows of a pass
-  pub trace_of : (v : View S O R) (z : TableId) (k : ℕ) (held : Held X H) → v.numbers ≡ k ∷ drop 1 v.numbers → Shows entries state reply after start v held → IsTrace reply after state start (pass_view z v k) (entries held.history) held.object
-  trace_of v z k held named show = record {
-    whole = show.whole;
-    legal = show.legal;
-    object_is = show.object;
-    bounded = show.bounded;
-    own = subst (λ (l : List ℕ). Own l (entries held.history)) named show.own;
-    differ = subst (λ (l : List ℕ). (n : ℕ) → times n l ≤ 1) named show.differ;
-    most = subst (λ (l : List ℕ). v.made ≤ length l) named show.most;
-  }

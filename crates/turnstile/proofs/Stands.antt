@@ -13,7 +13,7 @@ use Rattle.turnstile.specs.declared.view.Claim.{Claim}
 use Rattle.turnstile.specs.declared.view.Held.{Held}
 use Rattle.turnstile.specs.declared.view.Start.{Start}
 use Rattle.turnstile.specs.declared.view.View.{View}
-use Rattle.turnstile.specs.History.{times, total, replay, IsLegal, Foreign, Own, Claims}
+use Rattle.turnstile.specs.History.{times, total, replay, Foreign, Own, Claims}
 use Rattle.turnstile.specs.Plays.{Told}
 use Rattle.turnstile.specs.Turns.{AllClaim, opening_view, spent_view, unnumbered, joined, Knows, Out, AtHome, Stands}
 use Rattle.turnstile.proofs.Histories.{legal_snoc, drawn_snoc, drawn_more, foreign_none, foreign_fresh, foreign_front, foreign_tail, own_drawn, own_foreign, claims_same, claims_extend, claims_longer, all_claim_extend}
@@ -321,8 +321,6 @@ module _ {X H S O R : Type 0} (entries : H → List (Entry O R)) (state : X → 
     pub whole : v.seen ≡ log
     pub own : Own v.numbers log
     pub differ : (k : ℕ) → times k v.numbers ≤ 1
-    pub legal : IsLegal reply after start.state log
-    pub bounded : length log ≤ start.limit
 
   pub ended : (p d s : ℕ) (log : Log) (homes : Homes) (views : Views) (id : ℕ) (v : View S O R) → get_elem? views id ≡ maybe.some v → v.tickets ≡ [] → p ≤ length v.numbers
       → Rule p d s log homes views → Ended log homes v
@@ -347,6 +345,4 @@ module _ {X H S O R : Type 0} (entries : H → List (Entry O R)) (state : X → 
         whole = sym (c.is ∙ (ap (λ (l : Log). v.seen ++ l) (own_foreign v.numbers v.seen c.rest (subst (Own v.numbers) c.is own) c.foreign) ∙ append-nil v.seen));
         own = own;
         differ = λ k. omega (arith, out_single numbers_in 0 p views st.numbers k, mine k);
-        legal = st.legal;
-        bounded = st.bounded;
       }

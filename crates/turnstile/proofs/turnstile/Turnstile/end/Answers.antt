@@ -3,7 +3,7 @@ use Rattle.turnstile.specs.Calls.{numbers_of}
 use Rattle.turnstile.specs.Closing.{IsTrace}
 use Rattle.turnstile.specs.Turns.{start_of}
 use Rattle.turnstile.proofs.Keeps.{shows}
-use Rattle.turnstile.proofs.Phases.{seated, shown, trace_of}
+use Rattle.turnstile.proofs.Phases.{seated, shown}
 use Rattle.turnstile.proofs.turnstile.Turnstile.end.Goals as goal
 
 pub returns : goal.returns
@@ -14,6 +14,5 @@ returns g c =
     let named : length pass.seat.me.0.numbers ≡ length (numbers_of c.args.pass) = ap length c.pass.invariant.numbers ∙ ap (λ q. length (numbers_of q)) c.pass.view_is in
     let few : c.word-all.result ≤ length pass.seat.me.0.numbers = omega (arith, c.requires.all, named, c.if-all-made.false) in
     shown (λ x q. IsTrace g.T.Replays.replied g.T.Replays.after g.T.Replays.state_of x q (g.T.History.StoredHistory.entries held.history) held.object) _ _ pass.seat.table_id _ pass.seat.me.0 pass.number _ c.pass.view_is c.self.view_is
-    (trace_of _ _ _ _ _ pass.seat.me.0 pass.seat.table_id pass.number held c.pass.invariant.numbers
-    (shows g.T.History.StoredHistory.entries g.T.Replays.state_of g.T.Replays.replied g.T.Replays.after (start_of g.T.Replays.state_of c.self.inside.lock.table.shared.key) pass.seat.id pass.seat.me.0 _ _ c.word-all.result held
-    c.close_with-closed.ensures.values.2 c.word-all.ensures (search rules) (c.pass.invariant.rests here.2).1 few))
+    (shows g.T.History.StoredHistory.entries g.T.Replays.state_of g.T.Replays.replied g.T.Replays.after (start_of g.T.Replays.state_of c.self.inside.lock.table.shared.key) pass.seat.table_id pass.seat.id pass.seat.me.0 pass.number _ _ c.word-all.result held
+    c.close_with-closed.ensures.values.2 c.word-all.ensures (search rules) (c.pass.invariant.rests here.2).1 c.pass.invariant.numbers few)
