@@ -76,21 +76,21 @@ module _ {X H S O R : Type 0} (entries : H → List (Entry O R)) (state : X → 
   pub draws : (slots id : ℕ) (m : M) → m.0.tickets ≡ [] → m.0.come ≡ false → 0 < length m.0.numbers → Allows Holds slots id m 1 (λ n. (n + 1) % 18446744073709551616) (drew any_step m)
   draws slots id m none idle some = moves slots id m 1 (λ n. (n + 1) % 18446744073709551616) (drew any_step m) (λ p d s log homes views rule len at.
       stays id m 1 (λ n. (n + 1) % 18446744073709551616) (drew any_step m) p (d + 1) s log homes views (words_of p d s log) (record m.0 { tickets = d ∷ [] })
-      (ap (λ (n : ℕ). p ∷ n ∷ (s % 18446744073709551616) ∷ length log ∷ []) (mod-add-mod d 18446744073709551616 1)) (stands.drawn entries state reply after start p d s log homes views id m.0 at none idle some rule) (d, refl, refl))
+      (ap (λ (n : ℕ). p ∷ n ∷ (s % 18446744073709551616) ∷ length log ∷ []) (mod-add-mod d 18446744073709551616 1)) (stands.drawn entries state reply after start p d s log homes views id m.0 at rule none idle some) (d, refl, refl))
 
   pub looks : (slots id : ℕ) (m : M) (t : ℕ) → m.1 ≡ [] → m.0.tickets ≡ t ∷ [] → m.0.come ≡ false → Allows Holds slots id m 2 (λ n. n) (looked entries state reply after any_step m)
   looks slots id m t empty ticket idle = moves slots id m 2 (λ n. n) (looked entries state reply after any_step m) (λ p d s log homes views rule len at.
       dite (ℕ_discrete (s % 18446744073709551616) (first_of m.0.tickets % 18446744073709551616))
       (λ same.
-      let mine : t ≡ s = stands.is_served entries state reply after start p d s t log homes views id m.0 at ticket (same ∙ ap (λ (ts : List ℕ). first_of ts % 18446744073709551616) ticket) rule in
+      let mine : t ≡ s = stands.is_served entries state reply after start p d s log homes views id m.0 at rule t ticket (same ∙ ap (λ (ts : List ℕ). first_of ts % 18446744073709551616) ticket) in
       let now : m.0.tickets ≡ s ∷ [] = ticket ∙ ap (λ (n : ℕ). n ∷ []) mine in
-      let h : AtHome entries state reply after start homes log = stands.home_of entries state reply after start p d s log homes views id m.0 at now idle rule in
+      let h : AtHome entries state reply after start homes log = stands.home_of entries state reply after start p d s log homes views id m.0 at rule now idle in
       let k = rule.each id m.0 at in (
         record m.0 { seen = entries h.held.history; come = true },
         takes 0 (Some h.held),
         ap (λ (hs : Homes). get_elem? hs 0) h.is,
         holds_at p d s log (set homes 0 maybe.none) (set views id (record m.0 { seen = entries h.held.history; come = true })) _ refl
-            (stands.came entries state reply after start p d s log homes (set homes 0 maybe.none) views id m.0 h.held at now h.history rule),
+            (stands.came entries state reply after start p d s log homes views id m.0 at rule (set homes 0 maybe.none) h.held now h.history),
         (
           (λ _. record {
             held = h.held;
@@ -112,7 +112,7 @@ module _ {X H S O R : Type 0} (entries : H → List (Entry O R)) (state : X → 
     tt,
     holds_at p d (s + 1) log (put_back homes m.1) (set views id (record m.0 { tickets = []; come = false })) _ (ap (λ (n : ℕ). p ∷ (d % 18446744073709551616) ∷ n ∷ length log ∷ []) (mod-add-mod s 18446744073709551616 1))
         (subst (λ (hs : Homes). Rule p d (s + 1) log hs (set views id (record m.0 { tickets = []; come = false }))) (sym (ap (put_back homes) slot))
-        (stands.serve entries state reply after start p d s log homes views id m.0 held at turn (len ∙ one) history object rule)),
+        (stands.serve entries state reply after start p d s log homes views id m.0 at rule held turn (len ∙ one) history object)),
     refl,
   ))
 
@@ -125,16 +125,16 @@ module _ {X H S O R : Type 0} (entries : H → List (Entry O R)) (state : X → 
       let found : length log ≡ old = ap length (sym mine) ∙ sym was in
       stays id m 3 (λ k. either (eqb k old) n k) (noted entries (step 0 0 old n (maybe.some said)) m) p d s (log ++ e ∷ []) homes views (words_of p d s log) (record m.0 { seen = items_of entries said })
       (ap (λ (c : ℕ). p ∷ (d % 18446744073709551616) ∷ (s % 18446744073709551616) ∷ c ∷ []) (ap (λ (b : Bool). either b n (length log)) (eq-eqb (length log) old found) ∙ (is ∙ ap length (history ∙ ap (λ (l : Log). l ++ e ∷ []) mine))))
-      (stands.note entries state reply after start p d s log homes views id m.0 e (items_of entries said) at turn past history own right room rule) refl)
+      (stands.note entries state reply after start p d s log homes views id m.0 at rule e (items_of entries said) turn past history own right room) refl)
 
   pub counts : (slots id : ℕ) (m : M) → m.0.come ≡ false → Allows Holds slots id m 0 (λ n. n) (counted any_step m)
   counts slots id m idle = moves slots id m 0 (λ n. n) (counted any_step m) (λ p d s log homes views rule len at.
       let k = rule.each id m.0 at in
-      stays id m 0 (λ n. n) (counted any_step m) p d s log homes views (words_of p d s log) (record m.0 { made = p }) refl (stands.quiet entries state reply after start p d s log homes views id m.0 p m.0.past at idle (omega arith) k.past rule) (refl, k.made))
+      stays id m 0 (λ n. n) (counted any_step m) p d s log homes views (words_of p d s log) (record m.0 { made = p }) refl (stands.quiet entries state reply after start p d s log homes views id m.0 at rule p m.0.past idle (omega arith) k.past) (refl, k.made))
 
   pub tells : (slots id : ℕ) (m : M) → m.0.come ≡ false → Allows Holds slots id m 0 (λ n. n) (told any_step m)
   tells slots id m idle = moves slots id m 0 (λ n. n) (told any_step m) (λ p d s log homes views rule len at.
-      stays id m 0 (λ n. n) (told any_step m) p d s log homes views (words_of p d s log) (record m.0 { past = [] }) refl (stands.quiet entries state reply after start p d s log homes views id m.0 m.0.made [] at idle (rule.each id m.0 at).made tt rule)
+      stays id m 0 (λ n. n) (told any_step m) p d s log homes views (words_of p d s log) (record m.0 { past = [] }) refl (stands.quiet entries state reply after start p d s log homes views id m.0 at rule m.0.made [] idle (rule.each id m.0 at).made tt)
       (refl, stands.tells entries state reply after start p d s log homes views id m.0 at rule))
 
   -- a seat that was split off has no number yet
@@ -146,19 +146,19 @@ module _ {X H S O R : Type 0} (entries : H → List (Entry O R)) (state : X → 
       dite (ℕ_discrete p old)
       (λ same. stays id m 0 (λ n. either (eqb n old) (old + 1) n) (numbered (step 0 0 old 0 maybe.none) m) (p + 1) d s log homes views (words_of p d s log) (record m.0 { numbers = p ∷ []; made = p + 1 })
       (ap (λ (n : ℕ). n ∷ (d % 18446744073709551616) ∷ (s % 18446744073709551616) ∷ length log ∷ []) (ap (λ (b : Bool). either b (old + 1) p) (eq-eqb p old same) ∙ ap (λ (n : ℕ). n + 1) (sym same)))
-      (stands.number entries state reply after start p d s log homes views id m.0 at (ap (λ (n : M). n.0.numbers) is) (ap (λ (n : M). n.0.tickets) is) (ap (λ (n : M). n.0.past) is) idle (omega (arith, same, few)) rule)
+      (stands.number entries state reply after start p d s log homes views id m.0 at rule (ap (λ (n : M). n.0.numbers) is) (ap (λ (n : M). n.0.tickets) is) (ap (λ (n : M). n.0.past) is) idle (omega (arith, same, few)))
       ((λ _. (refl, stands.unseen entries state reply after start p d s log homes views id m.0 at rule)), (λ other. absurd (other same))))
       (λ other. stays id m 0 (λ n. either (eqb n old) (old + 1) n) (numbered (step 0 0 old 0 maybe.none) m) p d s log homes views (words_of p d s log) (record m.0 { made = p })
       (ap (λ (n : ℕ). n ∷ (d % 18446744073709551616) ∷ (s % 18446744073709551616) ∷ length log ∷ []) (ap (λ (b : Bool). either b (old + 1) p) (ne_eqb p old other)))
-      (stands.quiet entries state reply after start p d s log homes views id m.0 p m.0.past at idle (omega arith) k.past rule)
+      (stands.quiet entries state reply after start p d s log homes views id m.0 at rule p m.0.past idle (omega arith) k.past)
       ((λ same. absurd (other same)), (λ _. (refl, omega (arith, k.made, ap (λ (n : M). n.0.made) is, other))))))
 
   pub splits : (id : ℕ) (v : View S O R) → v.come ≡ false → Splits Holds id v v (unnumbered v)
-  splits id v idle s h at = holds_at h.passes h.drawn h.serving h.log s.homes _ s.words h.words (rw (set_again s.views id v at) (stands.split entries state reply after start h.passes h.drawn h.serving h.log s.homes s.views id v at idle h.stands))
+  splits id v idle s h at = holds_at h.passes h.drawn h.serving h.log s.homes _ s.words h.words (rw (set_again s.views id v at) (stands.split entries state reply after start h.passes h.drawn h.serving h.log s.homes s.views id v at h.stands idle))
 
   pub joins : (id other : ℕ) (v w : View S O R) → v.come ≡ false → w.tickets ≡ [] → w.come ≡ false → Joins Holds id v other w (joined v w) spent_view
   joins id other v w idle free not_come s h at apart there =
-      holds_at h.passes h.drawn h.serving h.log s.homes _ s.words h.words (stands.join entries state reply after start h.passes h.drawn h.serving h.log s.homes s.views id other v w at apart there idle free not_come h.stands)
+      holds_at h.passes h.drawn h.serving h.log s.homes _ s.words h.words (stands.join entries state reply after start h.passes h.drawn h.serving h.log s.homes s.views id v at h.stands other w apart there idle free not_come)
 
   -- one that has drawn none comes back
   pub joins_back : (id other : ℕ) (v : View S O R) (m : M) (u : View S O R) (old : ℕ) → v.come ≡ false → m ≡ (record (unnumbered u) { made = old }, []) → Joins Holds id v other m.0 (joined v m.0) spent_view
@@ -171,7 +171,7 @@ module _ {X H S O R : Type 0} (entries : H → List (Entry O R)) (state : X → 
   shows z id v k ws xs all held final first here idle named few =
       let h = final.1.0 in
       let p_is : h.passes ≡ all = some-injective h.passes all (sym (ap (λ (l : List ℕ). get_elem? l 0) (sym final.2 ∙ h.words)) ∙ first) in
-      let e = stands.ended entries state reply after start h.passes h.drawn h.serving h.log final.0.homes final.0.views id v final.1.1 idle (omega (arith, p_is, few)) h.stands in
+      let e = stands.ended entries state reply after start h.passes h.drawn h.serving h.log final.0.homes final.0.views id v final.1.1 h.stands idle (omega (arith, p_is, few)) in
       let home : AtHome entries state reply after start final.0.homes h.log = e.home in
       let same : home.held ≡ held = same_Some home.held held (some-injective (Some home.held) (Some held) (sym (final.4 0 (Some home.held) (ap (λ (hs : Homes). get_elem? hs 0) home.is)) ∙ here)) in
       let history : entries held.history ≡ h.log = ap (λ (z : Held X H). entries z.history) (sym same) ∙ home.history in

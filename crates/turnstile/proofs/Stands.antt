@@ -80,27 +80,6 @@ module _ {X H S O R : Type 0} (entries : H → List (Entry O R)) (state : X → 
     come = λ turn. absurd (both_ways v.come idle turn);
   }
 
-  -- a view changes that has not its turn; with it a number or a ticket may be drawn
-  changes : (p q d e s : ℕ) (log : Log) (homes : Homes) (views : Views) (id : ℕ) (v w : View S O R) → get_elem? views id ≡ maybe.some v → v.come ≡ false → p ≤ q → q ≤ 2 ^ 32
-      → Out numbers_in 0 q (set views id w) → Out tickets_in s e (set views id w) → Knower q s log w → Rule p d s log homes views → Rule q e s log homes (set views id w)
-  changes p q d e s log homes views id v w at idle le few numbers tickets knows st = record {
-    few = few;
-    legal = st.legal;
-    known = drawn_more p q log le st.known;
-    bounded = st.bounded;
-    numbers = numbers;
-    tickets = tickets;
-    each = each_set (Knower q s log) views id w knows (λ j u _ there. let o = st.each j u there in record {
-      begins = o.begins;
-      made = omega (arith, o.made, le);
-      fits = o.fits;
-      seen = o.seen;
-      past = o.past;
-      come = o.come;
-    });
-    home = λ none. st.home (home_back views id v w at idle none);
-  }
-
   first_knows : (j : ℕ) (v : View S O R) → get_elem? (opening_view start ∷ []) j ≡ maybe.some v → Knower 1 0 [] v
   first_knows zero v e = subst (Knower 1 0 []) (some-injective (opening_view start) v e)
       (waiting 1 0 [] (opening_view start) (λ x is. sym (same_Some start x is)) refl (omega arith) (omega arith) (claims_same (0 ∷ []) [] [] refl) tt)
@@ -118,203 +97,6 @@ module _ {X H S O R : Type 0} (entries : H → List (Entry O R)) (state : X → 
     home = λ _. record { held = held; is = refl; history = none; object = same };
   }
 
-  pub drawn : (p d s : ℕ) (log : Log) (homes : Homes) (views : Views) (id : ℕ) (v : View S O R) → get_elem? views id ≡ maybe.some v → v.tickets ≡ [] → v.come ≡ false → 0 < length v.numbers
-      → Rule p d s log homes views → Rule p (d + 1) s log homes (set views id (record v { tickets = d ∷ [] }))
-  drawn p d s log homes views id v at none idle some st =
-      let w : View S O R = record v { tickets = d ∷ [] } in
-      let k = st.each id v at in
-      changes p p d (d + 1) s log homes views id v w at idle (omega arith) st.few (out_same numbers_in 0 p views id v w at refl st.numbers) (out_more tickets_in s d views id v w at none refl st.tickets)
-      (waiting p s log w k.begins idle k.made (omega (arith, some)) k.seen k.past) st
-
-  -- where this ticket is served, nobody has its turn
-  nobody : (p d s : ℕ) (log : Log) (homes : Homes) (views : Views) (id : ℕ) (v : View S O R) → get_elem? views id ≡ maybe.some v → v.tickets ≡ s ∷ [] → v.come ≡ false → Rule p d s log homes views
-      → (j : ℕ) (u : View S O R) → get_elem? views j ≡ maybe.some u → u.come ≡ false
-  nobody p d s log homes views id v at ticket idle st j u there = false_from_ne_true u.come (λ turn. dite (ℕ_discrete id j)
-      (λ e. let same : u ≡ v = some-injective u v (sym there ∙ (ap (get_elem? views) (sym e) ∙ at)) in both_ways v.come idle (sym (ap (λ (z : View S O R). z.come) same) ∙ turn))
-      (λ ne. only_one s d views id j v u st.tickets ne at there ticket ((st.each j u there).come turn).0))
-
-  -- where the turn of one has come, that of no other has
-  others_wait : (p d s : ℕ) (log : Log) (homes : Homes) (views : Views) (id : ℕ) (v : View S O R) → get_elem? views id ≡ maybe.some v → v.come ≡ true → Rule p d s log homes views
-      → (j : ℕ) (u : View S O R) → j ≢ id → get_elem? views j ≡ maybe.some u → u.come ≡ false
-  others_wait p d s log homes views id v at turn st j u other there = false_from_ne_true u.come (λ too. only_one s d views j id u v st.tickets other there at ((st.each j u there).come too).0 ((st.each id v at).come turn).0)
-
-  -- a ticket that is out, and is this one modulo 2^64, is this one
-  pub is_served : (p d s t : ℕ) (log : Log) (homes : Homes) (views : Views) (id : ℕ) (v : View S O R) → get_elem? views id ≡ maybe.some v → v.tickets ≡ t ∷ [] → s % 18446744073709551616 ≡ t % 18446744073709551616
-      → Rule p d s log homes views → t ≡ s
-  is_served p d s t log homes views id v at ticket same st =
-      let mine = total_at (often tickets_in t) views id v at in
-      let one : times t v.tickets ≡ 1 + times t [] = ap (times t) ticket ∙ times_same t t [] refl in
-      let low : s ≤ t = dite (dec_le s t) (λ l. l) (λ n. absurd (omega (arith, mine, one, st.tickets.below t (omega (arith, n))))) in
-      let high : t < d = dite (dec_le d t) (λ l. absurd (omega (arith, mine, one, st.tickets.above t l))) (λ n. omega (arith, n)) in
-      let fits = total_below (many tickets_in) (many numbers_in) views (λ j u there. (st.each j u there).fits) in
-      sym (one_turn s t 18446744073709551616 low (omega (arith, high, fits, st.numbers.counted, st.tickets.counted, st.few)) same)
-
-  -- the turn of a seat comes, and it takes the value
-  pub came : (p d s : ℕ) (log : Log) (homes homes' : Homes) (views : Views) (id : ℕ) (v : View S O R) (held : Held X H) → get_elem? views id ≡ maybe.some v → v.tickets ≡ s ∷ [] → entries held.history ≡ log
-      → Rule p d s log homes views → Rule p d s log homes' (set views id (record v { seen = entries held.history; come = true }))
-  came p d s log homes homes' views id v held at ticket history st =
-      let w : View S O R = record v { seen = entries held.history; come = true } in
-      let k = st.each id v at in
-      record {
-        few = st.few;
-        legal = st.legal;
-        known = st.known;
-        bounded = st.bounded;
-        numbers = out_same numbers_in 0 p views id v w at refl st.numbers;
-        tickets = out_same tickets_in s d views id v w at refl st.tickets;
-        each = each_set (Knower p s log) views id w record {
-          begins = k.begins;
-          made = k.made;
-          fits = k.fits;
-          seen = claims_same v.numbers (entries held.history) log history;
-          past = k.past;
-          come = λ _. (ticket, history);
-        } (λ j u _ there. st.each j u there);
-        home = λ none. absurd (false≢true (sym (none id w (set_at views id v w at))));
-      }
-
-  -- the value at home, where nobody has its turn
-  pub home_of : (p d s : ℕ) (log : Log) (homes : Homes) (views : Views) (id : ℕ) (v : View S O R) → get_elem? views id ≡ maybe.some v → v.tickets ≡ s ∷ [] → v.come ≡ false → Rule p d s log homes views
-      → AtHome entries state reply after start homes log
-  home_of p d s log homes views id v at ticket idle st = st.home (nobody p d s log homes views id v at ticket idle st)
-
-  -- the value comes home, and the next ticket is served
-  pub serve : (p d s : ℕ) (log : Log) (homes : Homes) (views : Views) (id : ℕ) (v : View S O R) (held : Held X H) → get_elem? views id ≡ maybe.some v → v.come ≡ true → length homes ≡ 1
-      → entries held.history ≡ v.seen → state held.object ≡ replay reply after start.state v.seen
-      → Rule p d s log homes views → Rule p d (s + 1) log (set homes 0 (maybe.some (Some held))) (set views id (record v { tickets = []; come = false }))
-  serve p d s log homes views id v held at turn one history object st =
-      let w : View S O R = record v { tickets = []; come = false } in
-      let k = st.each id v at in
-      let mine = k.come turn in
-      record {
-        few = st.few;
-        legal = st.legal;
-        known = st.known;
-        bounded = st.bounded;
-        numbers = out_same numbers_in 0 p views id v w at refl st.numbers;
-        tickets = out_less tickets_in s d views id v w at mine.0 refl st.tickets;
-        each = each_set (Knower p (s + 1) log) views id w (waiting p (s + 1) log w k.begins refl k.made (omega arith) k.seen k.past)
-            (λ j u other there. let o = st.each j u there in waiting p (s + 1) log u o.begins (others_wait p d s log homes views id v at turn st j u other there) o.made o.fits o.seen o.past);
-        home = λ _. record {
-          held = held;
-          is = set_only homes (maybe.some (Some held)) one;
-          history = history ∙ mine.1;
-          object = object ∙ ap (replay reply after start.state) mine.1;
-        };
-      }
-
-  -- an entry is added by the seat whose turn it is
-  pub note : (p d s : ℕ) (log : Log) (homes : Homes) (views : Views) (id : ℕ) (v : View S O R) (e : Entry O R) (es : Log) → get_elem? views id ≡ maybe.some v → v.come ≡ true → v.past ≡ []
-      → es ≡ v.seen ++ e ∷ [] → 0 < times e.number v.numbers → e.reply ≡ reply (replay reply after start.state v.seen) e.op → length v.seen < start.limit
-      → Rule p d s log homes views → Rule p d s (log ++ e ∷ []) homes (set views id (record v { seen = es }))
-  note p d s log homes views id v e es at turn past history own right room st =
-      let w : View S O R = record v { seen = es } in
-      let k = st.each id v at in
-      let mine = k.come turn in
-      let whole : es ≡ log ++ e ∷ [] = history ∙ ap (λ (l : Log). l ++ e ∷ []) mine.1 in
-      record {
-        few = st.few;
-        legal = legal_snoc reply after start.state log e st.legal (right ∙ ap (λ (l : Log). reply (replay reply after start.state l) e.op) mine.1);
-        known = drawn_snoc p log e st.known (dite (dec_le p e.number)
-            (λ l. absurd (omega (arith, st.numbers.above e.number l, total_at (often numbers_in e.number) views id v at, own)))
-            (λ n. omega (arith, n)));
-        bounded = omega (arith, length-append log (e ∷ []), ap length mine.1, room);
-        numbers = out_same numbers_in 0 p views id v w at refl st.numbers;
-        tickets = out_same tickets_in s d views id v w at refl st.tickets;
-        each = each_set (Knower p s (log ++ e ∷ [])) views id w record {
-          begins = k.begins;
-          made = k.made;
-          fits = k.fits;
-          seen = claims_same v.numbers es (log ++ e ∷ []) whole;
-          past = subst (λ cs. AllClaim v.numbers cs (log ++ e ∷ [])) (sym past) tt;
-          come = λ _. (mine.0, whole);
-        } (λ j u other there.
-            let o = st.each j u there in
-            let alien : times e.number u.numbers ≡ 0 =
-            omega (arith, total_two (often numbers_in e.number) views id j v u spent_view refl (λ same. other (sym same)) at there, out_single numbers_in 0 p views st.numbers e.number, own) in
-            let new : Foreign u.numbers (e ∷ []) = (absent-times u.numbers e.number alien, tt) in
-            waiting p s (log ++ e ∷ []) u o.begins (others_wait p d s log homes views id v at turn st j u other there) o.made o.fits
-            (claims_extend u.numbers u.seen log (e ∷ []) o.seen new) (all_claim_extend u.numbers u.past log (e ∷ []) new o.past));
-        home = λ none. absurd (both_ways v.come (none id w (set_at views id v w at)) turn);
-      }
-
-  -- the count of passes that it knows changes, or what it claimed before
-  pub quiet : (p d s : ℕ) (log : Log) (homes : Homes) (views : Views) (id : ℕ) (v : View S O R) (known : ℕ) (claims : List (Claim O R)) → get_elem? views id ≡ maybe.some v → v.come ≡ false → known ≤ p → AllClaim v.numbers claims log
-      → Rule p d s log homes views → Rule p d s log homes (set views id (record v { made = known; past = claims }))
-  quiet p d s log homes views id v known claims at idle few hold st =
-      let w : View S O R = record v { made = known; past = claims } in
-      let k = st.each id v at in
-      changes p p d d s log homes views id v w at idle (omega arith) st.few (out_same numbers_in 0 p views id v w at refl st.numbers) (out_same tickets_in s d views id v w at refl st.tickets)
-      (waiting p s log w k.begins idle few k.fits k.seen hold) st
-
-  pub tells : (p d s : ℕ) (log : Log) (homes : Homes) (views : Views) (id : ℕ) (v : View S O R) → get_elem? views id ≡ maybe.some v → Rule p d s log homes views → Told v
-  tells p d s log homes views id v at st =
-      let k = st.each id v at in
-      record {
-        log = log;
-        past = k.past;
-        seen = k.seen;
-        once = λ n. omega (arith, total_at (often numbers_in n) views id v at, out_single numbers_in 0 p views st.numbers n);
-        few = omega (arith, total_at (many numbers_in) views id v at, st.numbers.counted, st.few);
-      }
-
-  -- a seat is split off
-  pub split : (p d s : ℕ) (log : Log) (homes : Homes) (views : Views) (id : ℕ) (v : View S O R) → get_elem? views id ≡ maybe.some v → v.come ≡ false
-      → Rule p d s log homes views → Rule p d s log homes (views ++ unnumbered v ∷ [])
-  split p d s log homes views id v at idle st =
-      let k = st.each id v at in
-      record {
-        few = st.few;
-        legal = st.legal;
-        known = st.known;
-        bounded = st.bounded;
-        numbers = out_snoc numbers_in 0 p views (unnumbered v) refl st.numbers;
-        tickets = out_snoc tickets_in s d views (unnumbered v) refl st.tickets;
-        each = λ j u there. ⊎_elim (λ here. st.each j u here)
-            (λ (e : unnumbered v ≡ u). subst (Knower p s log) e
-            (waiting p s log (unnumbered v) k.begins refl k.made (omega arith) (record { rest = k.seen.rest; is = k.seen.is; foreign = foreign_none k.seen.rest }) tt))
-            (at_snoc views (unnumbered v) u j there);
-        home = λ none. st.home (λ j u there. none j u (at_longer views (unnumbered v ∷ []) j u there));
-      }
-
-  -- a seat without a number draws one
-  pub number : (p d s : ℕ) (log : Log) (homes : Homes) (views : Views) (id : ℕ) (v : View S O R) → get_elem? views id ≡ maybe.some v → v.numbers ≡ [] → v.tickets ≡ [] → v.past ≡ [] → v.come ≡ false → p < 2 ^ 32
-      → Rule p d s log homes views → Rule (p + 1) d s log homes (set views id (record v { numbers = p ∷ []; made = p + 1 }))
-  number p d s log homes views id v at none free past idle few st =
-      let w : View S O R = record v { numbers = p ∷ []; made = p + 1 } in
-      let k = st.each id v at in
-      changes p (p + 1) d d s log homes views id v w at idle (omega arith) (omega (arith, few)) (out_more numbers_in 0 p views id v w at none refl st.numbers) (out_same tickets_in s d views id v w at refl st.tickets)
-      (waiting (p + 1) s log w k.begins idle (omega arith) (omega (arith, ap length free))
-      (record { rest = k.seen.rest; is = k.seen.is; foreign = foreign_tail (p ∷ []) v.seen k.seen.rest (subst (Foreign (p ∷ [])) k.seen.is (foreign_fresh p log st.known)) }) (subst (λ cs. AllClaim (p ∷ []) cs log) (sym past) tt)) st
-
-  -- no entry that a seat has seen has a number that is not drawn yet
-  pub unseen : (p d s : ℕ) (log : Log) (homes : Homes) (views : Views) (id : ℕ) (v : View S O R) → get_elem? views id ≡ maybe.some v → Rule p d s log homes views → Foreign (p ∷ []) v.seen
-  unseen p d s log homes views id v at st = let c = (st.each id v at).seen in foreign_front (p ∷ []) v.seen c.rest (subst (Foreign (p ∷ [])) c.is (foreign_fresh p log st.known))
-
-  -- one seat takes in another
-  pub join : (p d s : ℕ) (log : Log) (homes : Homes) (views : Views) (id other : ℕ) (v w : View S O R) → get_elem? views id ≡ maybe.some v → other ≢ id → get_elem? (set views id (joined v w)) other ≡ maybe.some w
-      → v.come ≡ false → w.tickets ≡ [] → w.come ≡ false
-      → Rule p d s log homes views → Rule p d s log homes (set (set views id (joined v w)) other spent_view)
-  join p d s log homes views id other v w at apart there idle free not_come st =
-      let before : get_elem? views other ≡ maybe.some w = sym (set_else views id other (joined v w) apart) ∙ there in
-      let k = st.each id v at in
-      let o = st.each other w before in
-      let knows : Knower p s log (joined v w) =
-      waiting p s log (joined v w) k.begins idle (omega (arith, k.made, o.made)) (omega (arith, k.fits, length-append v.numbers w.numbers)) (claims_longer v.numbers w.numbers v.seen w.seen log k.seen o.seen)
-      ((λ n. omega (arith, times-append n v.numbers w.numbers)), k.seen, ((λ n. omega (arith, times-append n v.numbers w.numbers)), o.seen, tt)) in
-      let spent : Knower p s log spent_view =
-      waiting p s log spent_view (λ x is. absurd (none-some x is)) refl (omega arith) (omega arith) (record { rest = log; is = refl; foreign = foreign_none log }) tt in
-      record {
-        few = st.few;
-        legal = st.legal;
-        known = st.known;
-        bounded = st.bounded;
-        numbers = out_join numbers_in 0 p views id other v w (joined v w) spent_view at there refl refl st.numbers;
-        tickets = out_join tickets_in s d views id other v w (joined v w) spent_view at there (sym (append-nil v.tickets) ∙ ap (λ ts. v.tickets ++ ts) (sym free)) refl st.tickets;
-        each = each_set (Knower p s log) (set views id (joined v w)) other spent_view spent (λ j u _ here. each_set (Knower p s log) views id (joined v w) knows (λ j u _ here. st.each j u here) j u here);
-        home = λ none. st.home (home_back views id v (joined v w) at idle (home_back (set views id (joined v w)) other w spent_view there not_come none));
-      }
-
   -- where one seat has all numbers, no other has a ticket. If it has none either, it has seen all, and the value is at home
   pub record Ended (log : Log) (homes : Homes) (v : View S O R) : Type 0 where
     pub home : AtHome entries state reply after start homes log
@@ -322,27 +104,227 @@ module _ {X H S O R : Type 0} (entries : H → List (Entry O R)) (state : X → 
     pub own : Own v.numbers log
     pub differ : (k : ℕ) → times k v.numbers ≤ 1
 
-  pub ended : (p d s : ℕ) (log : Log) (homes : Homes) (views : Views) (id : ℕ) (v : View S O R) → get_elem? views id ≡ maybe.some v → v.tickets ≡ [] → p ≤ length v.numbers
-      → Rule p d s log homes views → Ended log homes v
-  ended p d s log homes views id v at idle all st =
-      let rest = set views id spent_view in
-      let none : total (many numbers_in) rest ≡ 0 = omega (arith, st.numbers.counted, total_set (many numbers_in) views id v spent_view at, all) in
-      let mine : (k : ℕ) → total (often numbers_in k) views ≡ times k v.numbers =
-      λ k. omega (arith, none, total_set (often numbers_in k) views id v spent_view at, total_below (often numbers_in k) (many numbers_in) rest (λ j u _. times_length k u.numbers)) in
-      let no_ticket : total (many tickets_in) views ≡ 0 =
-      omega (
-        arith,
-        none,
-        ap length idle,
-        total_set (many tickets_in) views id v spent_view at,
-        total_below (many tickets_in) (many numbers_in) rest
-            (each_set (λ u. length u.tickets ≤ length u.numbers) views id spent_view (omega arith) (λ j u _ there. (st.each j u there).fits)),
-      ) in
-      let own : Own v.numbers log = own_drawn v.numbers p log (λ k l. omega (arith, st.numbers.once k (omega arith) l, mine k)) st.known in
-      let c = (st.each id v at).seen in
-      record {
-        home = st.home (λ j u here. false_from_ne_true u.come (λ turn. omega (arith, total_at (many tickets_in) views j u here, ap length ((st.each j u here).come turn).0, no_ticket)));
-        whole = sym (c.is ∙ (ap (λ (l : Log). v.seen ++ l) (own_foreign v.numbers v.seen c.rest (subst (Own v.numbers) c.is own) c.foreign) ∙ append-nil v.seen));
-        own = own;
-        differ = λ k. omega (arith, out_single numbers_in 0 p views st.numbers k, mine k);
-      }
+  -- a seat of a turnstile that stands
+  module _ (p d s : ℕ) (log : Log) (homes : Homes) (views : Views) (id : ℕ) (v : View S O R) (at : get_elem? views id ≡ maybe.some v) (st : Rule p d s log homes views) where
+    knows : Knower p s log v
+    knows = st.each id v at
+
+    -- its view changes while it has not its turn; with it a number or a ticket may be drawn
+    changes : (q e : ℕ) (w : View S O R) → v.come ≡ false → p ≤ q → q ≤ 2 ^ 32 → Out numbers_in 0 q (set views id w) → Out tickets_in s e (set views id w) → Knower q s log w → Rule q e s log homes (set views id w)
+    changes q e w idle le few numbers tickets now = record {
+      few = few;
+      legal = st.legal;
+      known = drawn_more p q log le st.known;
+      bounded = st.bounded;
+      numbers = numbers;
+      tickets = tickets;
+      each = each_set (Knower q s log) views id w now (λ j u _ there. let o = st.each j u there in record {
+        begins = o.begins;
+        made = omega (arith, o.made, le);
+        fits = o.fits;
+        seen = o.seen;
+        past = o.past;
+        come = o.come;
+      });
+      home = λ none. st.home (home_back views id v w at idle none);
+    }
+
+    pub drawn : v.tickets ≡ [] → v.come ≡ false → 0 < length v.numbers → Rule p (d + 1) s log homes (set views id (record v { tickets = d ∷ [] }))
+    drawn none idle some =
+        let w : View S O R = record v { tickets = d ∷ [] } in
+        changes p (d + 1) w idle (omega arith) st.few (out_same numbers_in 0 p views id v w at refl st.numbers) (out_more tickets_in s d views id v w at none refl st.tickets)
+        (waiting p s log w knows.begins idle knows.made (omega (arith, some)) knows.seen knows.past)
+
+    -- where its ticket is served, nobody has its turn
+    nobody : v.tickets ≡ s ∷ [] → v.come ≡ false → (j : ℕ) (u : View S O R) → get_elem? views j ≡ maybe.some u → u.come ≡ false
+    nobody ticket idle j u there = false_from_ne_true u.come (λ turn. dite (ℕ_discrete id j)
+        (λ e. let same : u ≡ v = some-injective u v (sym there ∙ (ap (get_elem? views) (sym e) ∙ at)) in both_ways v.come idle (sym (ap (λ (z : View S O R). z.come) same) ∙ turn))
+        (λ ne. only_one s d views id j v u st.tickets ne at there ticket ((st.each j u there).come turn).0))
+
+    -- where its turn has come, that of no other has
+    others_wait : v.come ≡ true → (j : ℕ) (u : View S O R) → j ≢ id → get_elem? views j ≡ maybe.some u → u.come ≡ false
+    others_wait turn j u other there = false_from_ne_true u.come (λ too. only_one s d views j id u v st.tickets other there at ((st.each j u there).come too).0 (knows.come turn).0)
+
+    -- its ticket is the one that is served, where it is so modulo 2^64
+    pub is_served : (t : ℕ) → v.tickets ≡ t ∷ [] → s % 18446744073709551616 ≡ t % 18446744073709551616 → t ≡ s
+    is_served t ticket same =
+        let mine = total_at (often tickets_in t) views id v at in
+        let one : times t v.tickets ≡ 1 + times t [] = ap (times t) ticket ∙ times_same t t [] refl in
+        let low : s ≤ t = dite (dec_le s t) (λ l. l) (λ n. absurd (omega (arith, mine, one, st.tickets.below t (omega (arith, n))))) in
+        let high : t < d = dite (dec_le d t) (λ l. absurd (omega (arith, mine, one, st.tickets.above t l))) (λ n. omega (arith, n)) in
+        let fits = total_below (many tickets_in) (many numbers_in) views (λ j u there. (st.each j u there).fits) in
+        sym (one_turn s t 18446744073709551616 low (omega (arith, high, fits, st.numbers.counted, st.tickets.counted, st.few)) same)
+
+    -- its turn comes, and it takes the value
+    pub came : (homes' : Homes) (held : Held X H) → v.tickets ≡ s ∷ [] → entries held.history ≡ log → Rule p d s log homes' (set views id (record v { seen = entries held.history; come = true }))
+    came homes' held ticket history =
+        let w : View S O R = record v { seen = entries held.history; come = true } in
+        record {
+          few = st.few;
+          legal = st.legal;
+          known = st.known;
+          bounded = st.bounded;
+          numbers = out_same numbers_in 0 p views id v w at refl st.numbers;
+          tickets = out_same tickets_in s d views id v w at refl st.tickets;
+          each = each_set (Knower p s log) views id w record {
+            begins = knows.begins;
+            made = knows.made;
+            fits = knows.fits;
+            seen = claims_same v.numbers (entries held.history) log history;
+            past = knows.past;
+            come = λ _. (ticket, history);
+          } (λ j u _ there. st.each j u there);
+          home = λ none. absurd (false≢true (sym (none id w (set_at views id v w at))));
+        }
+
+    -- the value is at home, where nobody has its turn
+    pub home_of : v.tickets ≡ s ∷ [] → v.come ≡ false → AtHome entries state reply after start homes log
+    home_of ticket idle = st.home (nobody ticket idle)
+
+    -- the value comes home, and the next ticket is served
+    pub serve : (held : Held X H) → v.come ≡ true → length homes ≡ 1
+        → entries held.history ≡ v.seen → state held.object ≡ replay reply after start.state v.seen
+        → Rule p d (s + 1) log (set homes 0 (maybe.some (Some held))) (set views id (record v { tickets = []; come = false }))
+    serve held turn one history object =
+        let w : View S O R = record v { tickets = []; come = false } in
+        let mine = knows.come turn in
+        record {
+          few = st.few;
+          legal = st.legal;
+          known = st.known;
+          bounded = st.bounded;
+          numbers = out_same numbers_in 0 p views id v w at refl st.numbers;
+          tickets = out_less tickets_in s d views id v w at mine.0 refl st.tickets;
+          each = each_set (Knower p (s + 1) log) views id w (waiting p (s + 1) log w knows.begins refl knows.made (omega arith) knows.seen knows.past)
+              (λ j u other there. let o = st.each j u there in waiting p (s + 1) log u o.begins (others_wait turn j u other there) o.made o.fits o.seen o.past);
+          home = λ _. record {
+            held = held;
+            is = set_only homes (maybe.some (Some held)) one;
+            history = history ∙ mine.1;
+            object = object ∙ ap (replay reply after start.state) mine.1;
+          };
+        }
+
+    -- it adds an entry in its turn
+    pub note : (e : Entry O R) (es : Log) → v.come ≡ true → v.past ≡ []
+        → es ≡ v.seen ++ e ∷ [] → 0 < times e.number v.numbers → e.reply ≡ reply (replay reply after start.state v.seen) e.op → length v.seen < start.limit
+        → Rule p d s (log ++ e ∷ []) homes (set views id (record v { seen = es }))
+    note e es turn past history own right room =
+        let w : View S O R = record v { seen = es } in
+        let mine = knows.come turn in
+        let whole : es ≡ log ++ e ∷ [] = history ∙ ap (λ (l : Log). l ++ e ∷ []) mine.1 in
+        record {
+          few = st.few;
+          legal = legal_snoc reply after start.state log e st.legal (right ∙ ap (λ (l : Log). reply (replay reply after start.state l) e.op) mine.1);
+          known = drawn_snoc p log e st.known (dite (dec_le p e.number)
+              (λ l. absurd (omega (arith, st.numbers.above e.number l, total_at (often numbers_in e.number) views id v at, own)))
+              (λ n. omega (arith, n)));
+          bounded = omega (arith, length-append log (e ∷ []), ap length mine.1, room);
+          numbers = out_same numbers_in 0 p views id v w at refl st.numbers;
+          tickets = out_same tickets_in s d views id v w at refl st.tickets;
+          each = each_set (Knower p s (log ++ e ∷ [])) views id w record {
+            begins = knows.begins;
+            made = knows.made;
+            fits = knows.fits;
+            seen = claims_same v.numbers es (log ++ e ∷ []) whole;
+            past = subst (λ cs. AllClaim v.numbers cs (log ++ e ∷ [])) (sym past) tt;
+            come = λ _. (mine.0, whole);
+          } (λ j u other there.
+              let o = st.each j u there in
+              let alien : times e.number u.numbers ≡ 0 =
+              omega (arith, total_two (often numbers_in e.number) views id j v u spent_view refl (λ same. other (sym same)) at there, out_single numbers_in 0 p views st.numbers e.number, own) in
+              let new : Foreign u.numbers (e ∷ []) = (absent-times u.numbers e.number alien, tt) in
+              waiting p s (log ++ e ∷ []) u o.begins (others_wait turn j u other there) o.made o.fits
+              (claims_extend u.numbers u.seen log (e ∷ []) o.seen new) (all_claim_extend u.numbers u.past log (e ∷ []) new o.past));
+          home = λ none. absurd (both_ways v.come (none id w (set_at views id v w at)) turn);
+        }
+
+    -- the count of passes that it knows changes, or what it claimed before
+    pub quiet : (known : ℕ) (claims : List (Claim O R)) → v.come ≡ false → known ≤ p → AllClaim v.numbers claims log → Rule p d s log homes (set views id (record v { made = known; past = claims }))
+    quiet known claims idle few hold =
+        let w : View S O R = record v { made = known; past = claims } in
+        changes p d w idle (omega arith) st.few (out_same numbers_in 0 p views id v w at refl st.numbers) (out_same tickets_in s d views id v w at refl st.tickets)
+        (waiting p s log w knows.begins idle few knows.fits knows.seen hold)
+
+    pub tells : Told v
+    tells = record {
+      log = log;
+      past = knows.past;
+      seen = knows.seen;
+      once = λ n. omega (arith, total_at (often numbers_in n) views id v at, out_single numbers_in 0 p views st.numbers n);
+      few = omega (arith, total_at (many numbers_in) views id v at, st.numbers.counted, st.few);
+    }
+
+    -- a seat is split off from it
+    pub split : v.come ≡ false → Rule p d s log homes (views ++ unnumbered v ∷ [])
+    split idle = record {
+      few = st.few;
+      legal = st.legal;
+      known = st.known;
+      bounded = st.bounded;
+      numbers = out_snoc numbers_in 0 p views (unnumbered v) refl st.numbers;
+      tickets = out_snoc tickets_in s d views (unnumbered v) refl st.tickets;
+      each = λ j u there. ⊎_elim (λ here. st.each j u here)
+          (λ (e : unnumbered v ≡ u). subst (Knower p s log) e
+          (waiting p s log (unnumbered v) knows.begins refl knows.made (omega arith) (record { rest = knows.seen.rest; is = knows.seen.is; foreign = foreign_none knows.seen.rest }) tt))
+          (at_snoc views (unnumbered v) u j there);
+      home = λ none. st.home (λ j u there. none j u (at_longer views (unnumbered v ∷ []) j u there));
+    }
+
+    -- without a number, it draws one
+    pub number : v.numbers ≡ [] → v.tickets ≡ [] → v.past ≡ [] → v.come ≡ false → p < 2 ^ 32 → Rule (p + 1) d s log homes (set views id (record v { numbers = p ∷ []; made = p + 1 }))
+    number none free past idle few =
+        let w : View S O R = record v { numbers = p ∷ []; made = p + 1 } in
+        changes (p + 1) d w idle (omega arith) (omega (arith, few)) (out_more numbers_in 0 p views id v w at none refl st.numbers) (out_same tickets_in s d views id v w at refl st.tickets)
+        (waiting (p + 1) s log w knows.begins idle (omega arith) (omega (arith, ap length free))
+        (record { rest = knows.seen.rest; is = knows.seen.is; foreign = foreign_tail (p ∷ []) v.seen knows.seen.rest (subst (Foreign (p ∷ [])) knows.seen.is (foreign_fresh p log st.known)) }) (subst (λ cs. AllClaim (p ∷ []) cs log) (sym past) tt))
+
+    -- no entry that it has seen has a number that is not drawn yet
+    pub unseen : Foreign (p ∷ []) v.seen
+    unseen = foreign_front (p ∷ []) v.seen knows.seen.rest (subst (Foreign (p ∷ [])) knows.seen.is (foreign_fresh p log st.known))
+
+    -- it takes in another
+    pub join : (other : ℕ) (w : View S O R) → other ≢ id → get_elem? (set views id (joined v w)) other ≡ maybe.some w
+        → v.come ≡ false → w.tickets ≡ [] → w.come ≡ false → Rule p d s log homes (set (set views id (joined v w)) other spent_view)
+    join other w apart there idle free not_come =
+        let before : get_elem? views other ≡ maybe.some w = sym (set_else views id other (joined v w) apart) ∙ there in
+        let o = st.each other w before in
+        let both : Knower p s log (joined v w) =
+        waiting p s log (joined v w) knows.begins idle (omega (arith, knows.made, o.made)) (omega (arith, knows.fits, length-append v.numbers w.numbers)) (claims_longer v.numbers w.numbers v.seen w.seen log knows.seen o.seen)
+        ((λ n. omega (arith, times-append n v.numbers w.numbers)), knows.seen, ((λ n. omega (arith, times-append n v.numbers w.numbers)), o.seen, tt)) in
+        let spent : Knower p s log spent_view =
+        waiting p s log spent_view (λ x is. absurd (none-some x is)) refl (omega arith) (omega arith) (record { rest = log; is = refl; foreign = foreign_none log }) tt in
+        record {
+          few = st.few;
+          legal = st.legal;
+          known = st.known;
+          bounded = st.bounded;
+          numbers = out_join numbers_in 0 p views id other v w (joined v w) spent_view at there refl refl st.numbers;
+          tickets = out_join tickets_in s d views id other v w (joined v w) spent_view at there (sym (append-nil v.tickets) ∙ ap (λ ts. v.tickets ++ ts) (sym free)) refl st.tickets;
+          each = each_set (Knower p s log) (set views id (joined v w)) other spent_view spent (λ j u _ here. each_set (Knower p s log) views id (joined v w) both (λ j u _ here. st.each j u here) j u here);
+          home = λ none. st.home (home_back views id v (joined v w) at idle (home_back (set views id (joined v w)) other w spent_view there not_come none));
+        }
+
+    pub ended : v.tickets ≡ [] → p ≤ length v.numbers → Ended log homes v
+    ended idle all =
+        let rest = set views id spent_view in
+        let none : total (many numbers_in) rest ≡ 0 = omega (arith, st.numbers.counted, total_set (many numbers_in) views id v spent_view at, all) in
+        let mine : (k : ℕ) → total (often numbers_in k) views ≡ times k v.numbers =
+        λ k. omega (arith, none, total_set (often numbers_in k) views id v spent_view at, total_below (often numbers_in k) (many numbers_in) rest (λ j u _. times_length k u.numbers)) in
+        let no_ticket : total (many tickets_in) views ≡ 0 =
+        omega (
+          arith,
+          none,
+          ap length idle,
+          total_set (many tickets_in) views id v spent_view at,
+          total_below (many tickets_in) (many numbers_in) rest
+              (each_set (λ u. length u.tickets ≤ length u.numbers) views id spent_view (omega arith) (λ j u _ there. (st.each j u there).fits)),
+        ) in
+        let own : Own v.numbers log = own_drawn v.numbers p log (λ k l. omega (arith, st.numbers.once k (omega arith) l, mine k)) st.known in
+        let c = knows.seen in
+        record {
+          home = st.home (λ j u here. false_from_ne_true u.come (λ turn. omega (arith, total_at (many tickets_in) views j u here, ap length ((st.each j u here).come turn).0, no_ticket)));
+          whole = sym (c.is ∙ (ap (λ (l : Log). v.seen ++ l) (own_foreign v.numbers v.seen c.rest (subst (Own v.numbers) c.is own) c.foreign) ∙ append-nil v.seen));
+          own = own;
+          differ = λ k. omega (arith, out_single numbers_in 0 p views st.numbers k, mine k);
+        }
