@@ -1,6 +1,7 @@
 -- What a step comes to, in each case.
-use Rattle.std.proofs.Common.{◌≡◌, ℕ, suc, Bool, true, false, Option, Some, None, is_some, refl}
-use Rattle.std.specs.Prelude.{nat_lt, ◌==◌, if◌then◌else◌}
+use Rattle.std.proofs.Common.{◌≡◌, ℕ, suc, true, false, Option, Some, None, is_some, refl}
+use Rattle.std.specs.Prelude.{nat_lt, ◌==◌}
+use Rattle.std.proofs.lemmas.Bool.{cond_both}
 use Rattle.stream_ident.specs.declared.ident.GrainId.{GrainId}
 use Rattle.stream_ident.specs.Words.{has_number}
 use Rattle.activation_directory.specs.declared.op.DirectoryOp.{DirectoryOp}
@@ -13,13 +14,6 @@ use Rattle.activation_directory.specs.Placed.{place_in, with_place, without, lea
 use Rattle.activation_directory.specs.Plain.{PlainDirectory}
 use Rattle.activation_directory.specs.Step.{enter, leave, unplace, down, step, taken_out}
 
-pub if-cases : {A : Type 0} (P : A → Type 0) (test : Bool) (x y : A) → (test ≡ true → P x) → (test ≡ false → P y) → P (if test then x else y)
-if-cases P test x y on off =
-    (elim test as (λ b. (b ≡ true → P x) → (b ≡ false → P y) → P (if b then x else y)) [
-      | true ↦ λ on off. on refl
-      | false ↦ λ on off. off refl
-    ]) on off
-
 -- the directory with a place of a grain, and so many permits given
 abbrev pub placed_in : PlainDirectory → GrainId → Place → ℕ → PlainDirectory
 placed_in d grain place given = record { placed = with_place d.placed grain place; given = given; permits = d.permits }
@@ -27,17 +21,17 @@ placed_in d grain place given = record { placed = with_place d.placed grain plac
 module _ (P : PlainDirectory × DirectoryReply → Type 0) (d : PlainDirectory) where
   pub enter-cases : (grain : GrainId) (silo : ℕ) (found : Option Place) → (nat_lt d.given d.permits ≡ true → P (placed_in d grain (record { silo = silo; permit = Some (suc d.given) }) (suc d.given), Entered (suc d.given)))
       → (nat_lt d.given d.permits ≡ false → P (d, Spent)) → P (d, Busy) → ((other : ℕ) → (other == silo) ≡ false → P (d, Elsewhere other)) → P (enter d grain silo found)
-  enter-cases grain silo None more spent busy elsewhere = if-cases P (nat_lt d.given d.permits) _ _ more spent
-  enter-cases grain silo (Some place) more spent busy elsewhere = if-cases P (place.silo == silo) _ _
-      (λ here. if-cases P (is_some place.permit) _ _ (λ out. busy) (λ free. if-cases P (nat_lt d.given d.permits) _ _ more spent)) (elsewhere place.silo)
+  enter-cases grain silo None more spent busy elsewhere = cond_both (nat_lt d.given d.permits) _ _ P more spent
+  enter-cases grain silo (Some place) more spent busy elsewhere = cond_both (place.silo == silo) _ _ P
+      (λ here. cond_both (is_some place.permit) _ _ P (λ out. busy) (λ free. cond_both (nat_lt d.given d.permits) _ _ P more spent)) (elsewhere place.silo)
 
   pub leave-cases : (grain : GrainId) (permit : ℕ) (found : Option Place) → P (d, NotYours) → ((place : Place) → P (placed_in d grain place d.given, Left)) → P (leave d grain permit found)
   leave-cases grain permit None not left = not
-  leave-cases grain permit (Some place) not left = if-cases P (has_number permit place.permit) _ _ (λ is. left (record { silo = place.silo; permit = None })) (λ isnt. not)
+  leave-cases grain permit (Some place) not left = cond_both (has_number permit place.permit) _ _ P (λ is. left (record { silo = place.silo; permit = None })) (λ isnt. not)
 
   pub unplace-cases : (grain : GrainId) (found : Option Place) → P (d, NotPlaced) → P (d, Busy) → P (taken_out d grain, Unplaced) → P (unplace d grain found)
   unplace-cases grain None none busy out = none
-  unplace-cases grain (Some place) none busy out = if-cases P (is_some place.permit) _ _ (λ is. busy) (λ free. out)
+  unplace-cases grain (Some place) none busy out = cond_both (is_some place.permit) _ _ P (λ is. busy) (λ free. out)
 
   down-cases : (silo : ℕ) (found : Option GrainId) → P (d, NoneLeft) → ((grain : GrainId) (count : ℕ) → P (taken_out d grain, Released grain count)) → P (down d silo found)
   down-cases silo None none out = none

@@ -1,7 +1,7 @@
 -- A permit that is out stays out until it is given back or the grain is taken from the silo that had it.
 use Rattle.std.proofs.Common.{◌≡◌, ◌∙◌, ℕ, suc, true, false, List, [], ◌∷◌, ◌++◌, Option, Some, None, refl, sym, ap, subst, arith}
 use Rattle.std.specs.Prelude.{◌⊎◌, ◌==◌}
-use Rattle.std.proofs.lemmas.Bool.{eqb-true}
+use Rattle.std.proofs.lemmas.Bool.{cond_both, eqb-true}
 use mathlib.Core.Logic.{inl, inr}
 use Rattle.stream_ident.specs.declared.ident.GrainId.{GrainId}
 use Rattle.stream_ident.specs.Name.{same_grain}
@@ -14,7 +14,7 @@ use Rattle.activation_directory.specs.Laws.{IsFreed, entered}
 use Rattle.activation_directory.specs.Placed.{place_in, without, least_on, count_on}
 use Rattle.activation_directory.specs.Plain.{PlainDirectory}
 use Rattle.activation_directory.specs.Step.{Entry, Leads, enter, leave, unplace, down, step}
-use Rattle.activation_directory.proofs.Cases.{if-cases, enter-cases, leave-cases, unplace-cases}
+use Rattle.activation_directory.proofs.Cases.{enter-cases, leave-cases, unplace-cases}
 use Rattle.stream_ident.proofs.SameValues.{same_grain-equal}
 use Rattle.activation_directory.proofs.Histories.{IsFreed-later}
 use Rattle.activation_directory.proofs.PlacedLemmas.{place_in-here, place_in-other, place_in-without}
@@ -37,12 +37,12 @@ module _ (d : PlainDirectory) (grain : GrainId) (silo permit : ℕ) (holds : Hol
   enter-same : (asked : ℕ) → Goes grain silo permit (Enter grain asked) (step d (Enter grain asked))
   enter-same asked =
       subst (λ found. Goes grain silo permit (Enter grain asked) (enter d grain asked found)) (sym holds)
-      (if-cases (Goes grain silo permit (Enter grain asked)) (silo == asked) _ _ (λ here. inl holds) (λ elsewhere. inl holds))
+      (cond_both (silo == asked) _ _ (Goes grain silo permit (Enter grain asked)) (λ here. inl holds) (λ elsewhere. inl holds))
 
   leave-same : (given : ℕ) → Goes grain silo permit (Leave grain given) (step d (Leave grain given))
   leave-same given =
       subst (λ found. Goes grain silo permit (Leave grain given) (leave d grain given found)) (sym holds)
-      (if-cases (Goes grain silo permit (Leave grain given)) (permit == given) _ _ (λ is. inr (inl (ap (Leave grain) (sym (eqb-true permit given is)), refl))) (λ not. inl holds))
+      (cond_both (permit == given) _ _ (Goes grain silo permit (Leave grain given)) (λ is. inr (inl (ap (Leave grain) (sym (eqb-true permit given is)), refl))) (λ not. inl holds))
 
   unplace-same : Goes grain silo permit (Unplace grain) (step d (Unplace grain))
   unplace-same = subst (λ found. Goes grain silo permit (Unplace grain) (unplace d grain found)) (sym holds) (inl holds)
@@ -88,7 +88,7 @@ module _ (d : PlainDirectory) (grain : GrainId) (silo permit : ℕ) (holds : Hol
   refused : (asked other : ℕ) → (step d (Enter grain asked)).1 ≡ Entered other → ⊥
   refused asked other =
       subst (λ found. (enter d grain asked found).1 ≡ Entered other → ⊥) (sym holds)
-      (if-cases (λ (stepped : PlainDirectory × DirectoryReply). stepped.1 ≡ Entered other → ⊥) (silo == asked) _ _ (λ here told. absurd (cc)) (λ elsewhere told. absurd (cc)))
+      (cond_both (silo == asked) _ _ (λ (stepped : PlainDirectory × DirectoryReply). stepped.1 ≡ Entered other → ⊥) (λ here told. absurd (cc)) (λ elsewhere told. absurd (cc)))
 
 -- an entry whose operation and reply free the permit
 freed : (x : Entry) (xs : List Entry) (grain : GrainId) (silo permit : ℕ) → Frees grain silo permit x.op x.reply → IsFreed (x ∷ xs) grain silo permit
