@@ -1,5 +1,6 @@
 -- The place of a grain after a change of the directory.
-use Rattle.std.proofs.Common.{◌≡◌, true, false, [], ◌∷◌, Some, if◌then◌else◌, refl, subst}
+use Rattle.std.proofs.Common.{◌≡◌, false, [], ◌∷◌, Option, Some, if◌then◌else◌, refl, ap, subst}
+use Rattle.std.proofs.lemmas.Bool.{cond_both}
 use Rattle.stream_ident.specs.declared.ident.GrainId.{GrainId}
 use Rattle.stream_ident.specs.Name.{same_grain}
 use Rattle.activation_directory.specs.declared.place.Place.{Place}
@@ -10,33 +11,21 @@ use Rattle.stream_ident.proofs.SameValues.{same_grain-equal, same_grain-refl}
 pub place_in-here : (placed : Placed) (grain : GrainId) (place : Place) → place_in (with_place placed grain place) grain ≡ Some place
 place_in-here [] grain place = rw (same_grain-refl grain) refl
 place_in-here (entry ∷ entries) grain place =
-    (elim (same_grain grain entry.0) as (λ b. same_grain grain entry.0 ≡ b → place_in (if b then (entry.0, place) ∷ entries else entry ∷ with_place entries grain place) grain ≡ Some place) [
-      | true ↦ λ here. rw here refl
-      | false ↦ λ there. rw there (place_in-here entries grain place)
-    ]) refl
+    cond_both (same_grain grain entry.0) ((entry.0, place) ∷ entries) (entry ∷ with_place entries grain place) (λ now. place_in now grain ≡ Some place) (λ here. rw here refl)
+    (λ there. rw there (place_in-here entries grain place))
 
 -- and another keeps its own
 pub place_in-other : (placed : Placed) (other grain : GrainId) (place : Place) → same_grain other grain ≡ false → place_in (with_place placed grain place) other ≡ place_in placed other
 place_in-other [] other grain place apart = rw apart refl
 place_in-other (entry ∷ entries) other grain place apart =
-    (elim (same_grain grain entry.0) as (λ b. same_grain grain entry.0 ≡ b → place_in (if b then (entry.0, place) ∷ entries else entry ∷ with_place entries grain place) other ≡ place_in (entry ∷ entries) other) [
-      | true ↦ λ here. rw (subst (λ x. same_grain other x ≡ false) (same_grain-equal grain entry.0 here) apart) refl
-      | false ↦ λ there.
-          (elim (same_grain other entry.0) as (λ c. (if c then Some entry.1 else place_in (with_place entries grain place) other) ≡ (if c then Some entry.1 else place_in entries other)) [
-            | true ↦ refl
-            | false ↦ place_in-other entries other grain place apart
-          ])
-    ]) refl
+    cond_both (same_grain grain entry.0) ((entry.0, place) ∷ entries) (entry ∷ with_place entries grain place) (λ now. place_in now other ≡ place_in (entry ∷ entries) other)
+    (λ here. let away : same_grain other entry.0 ≡ false = subst (λ x. same_grain other x ≡ false) (same_grain-equal grain entry.0 here) apart in rw away refl)
+    (λ _. ap {B = Option Place} (λ rest. if same_grain other entry.0 then Some entry.1 else rest) (place_in-other entries other grain place apart))
 
 -- as it does where a grain is taken out
 pub place_in-without : (placed : Placed) (other grain : GrainId) → same_grain other grain ≡ false → place_in (without placed grain) other ≡ place_in placed other
 place_in-without [] other grain apart = refl
 place_in-without (entry ∷ entries) other grain apart =
-    (elim (same_grain grain entry.0) as (λ b. same_grain grain entry.0 ≡ b → place_in (if b then entries else entry ∷ without entries grain) other ≡ place_in (entry ∷ entries) other) [
-      | true ↦ λ here. rw (subst (λ x. same_grain other x ≡ false) (same_grain-equal grain entry.0 here) apart) refl
-      | false ↦ λ there.
-          (elim (same_grain other entry.0) as (λ c. (if c then Some entry.1 else place_in (without entries grain) other) ≡ (if c then Some entry.1 else place_in entries other)) [
-            | true ↦ refl
-            | false ↦ place_in-without entries other grain apart
-          ])
-    ]) refl
+    cond_both (same_grain grain entry.0) entries (entry ∷ without entries grain) (λ now. place_in now other ≡ place_in (entry ∷ entries) other)
+    (λ here. let away : same_grain other entry.0 ≡ false = subst (λ x. same_grain other x ≡ false) (same_grain-equal grain entry.0 here) apart in rw away refl)
+    (λ _. ap {B = Option Place} (λ rest. if same_grain other entry.0 then Some entry.1 else rest) (place_in-without entries other grain apart))

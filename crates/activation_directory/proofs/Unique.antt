@@ -1,7 +1,8 @@
 -- In each directory that a legal history leaves, a grain is placed once. So the least grain of a silo is
 -- placed on that silo.
 use Rattle.std.proofs.Common.{◌≡◌, ◌∙◌, ℕ, true, false, List, [], ◌∷◌, Option, Some, None, refl, sym, ap, subst, true≢false}
-use Rattle.std.specs.Prelude.{◌==◌, if◌then◌else◌}
+use Rattle.std.specs.Prelude.{◌==◌}
+use Rattle.std.proofs.lemmas.Bool.{cond_both, false_from_ne_true}
 use Rattle.stream_ident.specs.declared.ident.GrainId.{GrainId}
 use Rattle.stream_ident.specs.Name.{grain_lt, same_grain}
 use Rattle.activation_directory.specs.declared.op.DirectoryOp.{DirectoryOp}
@@ -21,26 +22,21 @@ IsUnique (entry ∷ entries) = (place_in entries entry.0 ≡ None) × IsUnique e
 
 apart-sym : (a b : GrainId) → same_grain a b ≡ false → same_grain b a ≡ false
 apart-sym a b apart =
-    (elim (same_grain b a) as (λ c. same_grain b a ≡ c → c ≡ false) [
-      | true ↦ λ same. absurd (true≢false (sym (same_grain-refl a) ∙ ap (λ g. same_grain a g) (sym (same_grain-equal b a same)) ∙ apart))
-      | false ↦ λ other. refl
-    ]) refl
+    false_from_ne_true (same_grain b a) (λ same. true≢false (sym (same_grain-refl a) ∙ ap (λ g. same_grain a g) (sym (same_grain-equal b a same)) ∙ apart))
 
 unique-with : (placed : Placed) (grain : GrainId) (place : Place) → IsUnique placed → IsUnique (with_place placed grain place)
 unique-with [] grain place unique = (refl, tt)
 unique-with (entry ∷ entries) grain place unique =
-    (elim (same_grain grain entry.0) as (λ b. same_grain grain entry.0 ≡ b → IsUnique (if b then (entry.0, place) ∷ entries else entry ∷ with_place entries grain place)) [
-      | true ↦ λ here. unique
-      | false ↦ λ there. (place_in-other entries entry.0 grain place (apart-sym grain entry.0 there) ∙ unique.0, unique-with entries grain place unique.1)
-    ]) refl
+    cond_both (same_grain grain entry.0) ((entry.0, place) ∷ entries) (entry ∷ with_place entries grain place) IsUnique
+    (λ here. unique)
+    (λ there. (place_in-other entries entry.0 grain place (apart-sym grain entry.0 there) ∙ unique.0, unique-with entries grain place unique.1))
 
 unique-without : (placed : Placed) (grain : GrainId) → IsUnique placed → IsUnique (without placed grain)
 unique-without [] grain unique = unique
 unique-without (entry ∷ entries) grain unique =
-    (elim (same_grain grain entry.0) as (λ b. same_grain grain entry.0 ≡ b → IsUnique (if b then entries else entry ∷ without entries grain)) [
-      | true ↦ λ here. unique.1
-      | false ↦ λ there. (place_in-without entries entry.0 grain (apart-sym grain entry.0 there) ∙ unique.0, unique-without entries grain unique.1)
-    ]) refl
+    cond_both (same_grain grain entry.0) entries (entry ∷ without entries grain) IsUnique
+    (λ here. unique.1)
+    (λ there. (place_in-without entries entry.0 grain (apart-sym grain entry.0 there) ∙ unique.0, unique-without entries grain unique.1))
 
 pub unique-step : (d : PlainDirectory) → IsUnique d.placed → (op : DirectoryOp) → IsUnique (step d op).0.placed
 unique-step d unique op = step-cases (λ stepped. IsUnique stepped.0.placed) d op
@@ -70,10 +66,9 @@ lesser-on silo entry entries None grain none here on is =
     let same : entry.0 ≡ grain = cc in
     subst (IsPlacedOn silo (entry ∷ entries)) same (entry.1, rw (same_grain-refl entry.0) refl, here)
 lesser-on silo entry entries (Some other) grain none here on is =
-    (elim (grain_lt other entry.0) as (λ b. Some (if b then other else entry.0) ≡ Some grain → IsPlacedOn silo (entry ∷ entries) grain) [
-      | true ↦ λ is. let same : other ≡ grain = cc in placed-later silo entry entries grain none (on grain (ap {B = Option GrainId} Some same))
-      | false ↦ λ is. let same : entry.0 ≡ grain = cc in subst (IsPlacedOn silo (entry ∷ entries)) same (entry.1, rw (same_grain-refl entry.0) refl, here)
-    ]) is
+    cond_both (grain_lt other entry.0) other entry.0 (λ least. Some least ≡ Some grain → IsPlacedOn silo (entry ∷ entries) grain)
+    (λ _ is. let same : other ≡ grain = cc in placed-later silo entry entries grain none (on grain (ap {B = Option GrainId} Some same)))
+    (λ _ is. let same : entry.0 ≡ grain = cc in subst (IsPlacedOn silo (entry ∷ entries)) same (entry.1, rw (same_grain-refl entry.0) refl, here)) is
 
 pub least_on-placed : (silo : ℕ) (placed : Placed) (grain : GrainId) → IsUnique placed → least_on silo placed ≡ Some grain → IsPlacedOn silo placed grain
 least_on-placed silo [] grain unique is = absurd (cc)
