@@ -1,5 +1,6 @@
 -- What was asked, with its replies, and the same calls done once more.
 use Rattle.std.proofs.Common.{◌≡◌, ℕ, zero, suc, ◌+◌, ◌<◌, List, [], ◌∷◌, ◌++◌, length, map, get_or, take, drop, add-one, refl, sym, ap, ◌∙◌, subst, arith}
+use Rattle.std.proofs.lemmas.List.{length-map}
 use Rattle.std.proofs.Math.Seq.{take-length}
 use Rattle.turnstile.specs.declared.asked.Asked.{Asked}
 use Rattle.turnstile.specs.declared.history.Entry.{Entry}
@@ -7,11 +8,6 @@ use Rattle.turnstile.specs.History.{replay, IsLegal, entry}
 use Rattle.turnstile.specs.Recorded.{answered}
 
 module _ {O R : Type 0} where
-  pub length-answered : (qs : List (Asked O)) (rs : List R) → length qs ≡ length rs → length (answered qs rs) ≡ length qs
-  length-answered [] rs same = refl
-  length-answered (a ∷ qs) [] same = absurd (omega (arith, same))
-  length-answered (a ∷ qs) (r ∷ rs) same = let h : length (answered qs rs) ≡ length qs = length-answered qs rs (omega (arith, same)) in omega (arith, h)
-
   pub answered-snoc : (qs : List (Asked O)) (rs : List R) (a : Asked O) (r : R) → length qs ≡ length rs → answered (qs ++ a ∷ []) (rs ++ r ∷ []) ≡ answered qs rs ++ entry a.number a.op r ∷ []
   answered-snoc [] [] a r same = refl
   answered-snoc [] (x ∷ rs) a r same = absurd (omega (arith, same))
@@ -23,6 +19,9 @@ module _ {O R : Type 0} where
   replies-answered [] (r ∷ rs) same = absurd (omega (arith, same))
   replies-answered (a ∷ qs) [] same = absurd (omega (arith, same))
   replies-answered (a ∷ qs) (r ∷ rs) same = ap (λ (l : List R). r ∷ l) (replies-answered qs rs (omega (arith, same)))
+
+  pub length-answered : (qs : List (Asked O)) (rs : List R) → length qs ≡ length rs → length (answered qs rs) ≡ length qs
+  length-answered qs rs same = sym (length-map (answered qs rs) (λ (e : Entry O R). e.reply)) ∙ (ap length (replies-answered qs rs same) ∙ sym same)
 
 module _ {S O R : Type 0} (reply : S → O → R) (after : S → O → S) where
   -- the first k calls were done again
