@@ -1,6 +1,6 @@
 -- Beginnings of a history, and a history with one more entry.
-use Rattle.std.proofs.Common.{◌≡◌, ℕ, ◌<◌, ◌≤◌, ◌⊎◌, ⊎_elim, inl, inr, Bool, true, false, ltb, if◌then◌else◌, List, [], ◌∷◌, ◌++◌, length, get_or, drop, refl, sym, ap, ◌∙◌, subst, arith, append_assoc, append-nil}
-use Rattle.std.proofs.lemmas.Bool.{ltb-true, ltb-false}
+use Rattle.std.proofs.Common.{◌≡◌, ℕ, ◌<◌, ◌≤◌, ◌⊎◌, ⊎_elim, inl, inr, ltb, List, [], ◌∷◌, ◌++◌, length, get_or, drop, refl, sym, ap, ◌∙◌, subst, arith, append_assoc, append-nil}
+use Rattle.std.proofs.lemmas.Bool.{cond_both, ltb-true, ltb-false}
 use Rattle.turnstile.specs.declared.history.Entry.{Entry}
 use Rattle.turnstile.specs.declared.view.Claim.{Claim}
 use Rattle.turnstile.specs.History.{times, replay, IsLegal, Foreign, Own, Drawn, Claims, longer}
@@ -107,12 +107,9 @@ module _ {O R : Type 0} where
         foreign = foreign_front numbers h.0 r (subst (Foreign numbers) h.2 c.foreign);
       }
 
-  longer_by : (xs ys : List (Entry O R)) (b : Bool) → ltb (length xs) (length ys) ≡ b → ((if b then ys else xs) ≡ xs) × (length ys ≤ length xs) ⊎ ((if b then ys else xs) ≡ ys) × (length xs ≤ length ys)
-  longer_by xs ys true is = inr (refl, omega (arith, ltb-true (length xs) (length ys) is))
-  longer_by xs ys false is = inl (refl, ltb-false (length xs) (length ys) is)
-
   pub longer_is : (xs ys : List (Entry O R)) → (longer xs ys ≡ xs) × (length ys ≤ length xs) ⊎ (longer xs ys ≡ ys) × (length xs ≤ length ys)
-  longer_is xs ys = longer_by xs ys (ltb (length xs) (length ys)) refl
+  longer_is xs ys = cond_both (ltb (length xs) (length ys)) ys xs (λ l. (l ≡ xs) × (length ys ≤ length xs) ⊎ (l ≡ ys) × (length xs ≤ length ys))
+      (λ less. inr (refl, omega (arith, ltb-true (length xs) (length ys) less))) (λ not. inl (refl, ltb-false (length xs) (length ys) not))
 
   pub longer_bounds : (xs ys : List (Entry O R)) → (length xs ≤ length (longer xs ys)) × (length ys ≤ length (longer xs ys))
   longer_bounds xs ys = ⊎_elim (λ t. rw t.0 (omega arith, t.1)) (λ t. rw t.0 (t.1, omega arith)) (longer_is xs ys)
