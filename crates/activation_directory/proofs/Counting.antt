@@ -42,12 +42,8 @@ counts-leads d [] e same fits = (omega (arith, ap (λ (x : PlainDirectory). x.gi
 counts-leads d (x ∷ xs) e leads fits =
     let first = counts-step d x.op in
     let given : (step d x.op).0.given ≡ one x.reply + d.given = first.0 ∙ ap (λ reply. one reply + d.given) leads.0 in
-    let limit : (step d x.op).0.permits ≡ d.permits = first.1 in
-    let within : (step d x.op).0.given ≤ d.permits = first.2 fits in
-    let rest = counts-leads (step d x.op).0 xs e leads.1 (subst (λ n. (step d x.op).0.given ≤ n) (sym limit) within) in
-    let more : e.given ≡ permits_given xs + (step d x.op).0.given = rest.0 in
-    let here : permits_given (x ∷ xs) ≡ one x.reply + permits_given xs = given-first x xs in
-    (omega arith, rest.1 ∙ limit, subst (λ n. e.given ≤ n) limit rest.2)
+    let rest = counts-leads (step d x.op).0 xs e leads.1 (omega (arith, first.1, first.2 fits)) in
+    (omega (arith, given, rest.0, given-first x xs), rest.1 ∙ first.1, omega (arith, rest.2, first.1))
 
 -- a legal history
 pub counts-history : (permits : ℕ) (history : List Entry) (d : PlainDirectory) → Stands permits history d
