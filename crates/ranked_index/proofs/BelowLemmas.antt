@@ -1,8 +1,8 @@
 -- The numbers below a length, in their order.
-use Rattle.std.proofs.Common.{◌≡◌, ◌∙◌, ℕ, zero, suc, ◌+◌, ◌<◌, ◌≤◌, Bool, true, false, List, [], ◌∷◌, ◌++◌, length, take, drop, filter, nat_lt, refl, sym, ap, arith}
+use Rattle.std.proofs.Common.{◌≡◌, ◌∙◌, ℕ, suc, ◌+◌, ◌<◌, ◌≤◌, Bool, true, false, List, [], ◌∷◌, ◌++◌, length, take, drop, filter, nat_lt, refl, sym, ap, arith}
 use Rattle.std.proofs.Math.Seq.{drop-cons}
 use Rattle.std.proofs.lemmas.Bool.{cond-true, cond-false, le-ltb, lt-ltb, ltb-false}
-use Rattle.std.proofs.lemmas.List.{take_all, take-append-drop}
+use Rattle.std.proofs.lemmas.List.{take_all, take-append-drop, take-take}
 use Rattle.std.proofs.lemmas.List.Edits.{length-remove}
 use Rattle.std.proofs.lemmas.List.Elements.{filter-append}
 use Rattle.std.specs.List.{insert, remove}
@@ -53,14 +53,8 @@ below-twice len more (n ∷ order) le = by (nat_lt n more) refl (below-twice len
         later
         ∙ sym (cond-false (nat_lt n len) (n ∷ numbers_below len order) (numbers_below len order) (le-ltb n len (omega (arith, le, ltb-false n more isnt))))
 
-take-twice : {A : Type 0} (len more : ℕ) (xs : List A) → len ≤ more → take len (take more xs) ≡ take len xs
-take-twice zero more xs le = refl
-take-twice (suc len) zero xs le = absurd (omega arith)
-take-twice (suc len) (suc more) [] le = refl
-take-twice (suc len) (suc more) (x ∷ xs) le = ap (λ (rest : List _). x ∷ rest) (take-twice len more xs (omega arith))
-
 pub truncated-twice : (len more : ℕ) (r : PlainResumes) → len ≤ more → truncated len (truncated more r) ≡ truncated len r
-truncated-twice len more r le = λ i. record { leaves = take-twice len more r.leaves le i; order = below-twice len more r.order le i }
+truncated-twice len more r le = λ i. record { leaves = take-take len more r.leaves le i; order = below-twice len more r.order le i }
 
 pub truncated-all : (len : ℕ) (r : PlainResumes) → IsRanking r.order → length r.order ≡ length r.leaves → length r.leaves ≤ len → truncated len r ≡ r
 truncated-all len r ranking long most = λ i. record { leaves = take_all len r.leaves most i; order = below-all len r.order ranking (omega (arith, long)) i }
