@@ -1,7 +1,6 @@
 -- Entries and their keys where one is added, changed or taken back.
 use Rattle.std.proofs.Common.{◌≡◌, ◌≢◌, ◌∙◌, ap, ap₂, sym, subst, ℕ, ◌+◌, ◌<◌, ◌≤◌, inl, inr, Bool, true, false, not, List, [], ◌∷◌, ◌++◌, length, get_or, take, set, Option, Some, nat_lt, arith, length-set, get_or-set_same, get_or-set_other}
-use Rattle.std.proofs.lemmas.Bool.Decides.{nat_tests}
-use Rattle.std.proofs.lemmas.Bool.{both_ways, cases_lt, cases_eq, cases_order, false_from_ne_true, not-false, not-true, not_from_false}
+use Rattle.std.proofs.lemmas.Bool.{both_ways, cases_lt, cases_eq, cases_order, false_from_ne_true, le-ltb, lt-ltb, not-false, not-true, not_from_false}
 use Rattle.std.proofs.lemmas.List.{get_or_append_left, get_or_default, get_or_push, get_or-take, length_push}
 use Rattle.std.proofs.lemmas.List.Edits.{length-insert, length-remove, get_or-remove_below, get_or-remove_above}
 use Rattle.std.proofs.lemmas.Option.{slice_get-get_or}
@@ -185,10 +184,10 @@ pub rank-before : {E N : Type 0} (name : E → N) (lt same : N → N → Bool) �
     → i < length order → slice_index order i ≡ m → j < length order → slice_index order j ≡ n → nat_lt i j ≡ lt (name (get_or entries m d)) (name (get_or entries n d))
 rank-before {E} {N} name lt same o entries order are d m n i j within at inside there =
     elim (cases_order i j) [
-      | inl level ↦ not-less level ∙ sym (own-same (sym at ∙ ap (slice_index order) level ∙ there))
+      | inl level ↦ le-ltb i j (omega (arith, level)) ∙ sym (own-same (sym at ∙ ap (slice_index order) level ∙ there))
       | inr apart ↦ elim apart [
-        | inl less ↦ is-less less ∙ sym (named i m at j n there ∙ are.rises d i j less inside)
-        | inr more ↦ is-not-less more ∙ sym (o.one_way _ _ (named j n there i m at ∙ are.rises d j i more within))
+        | inl less ↦ lt-ltb i j less ∙ sym (named i m at j n there ∙ are.rises d i j less inside)
+        | inr more ↦ le-ltb i j (omega (arith, more)) ∙ sym (o.one_way _ _ (named j n there i m at ∙ are.rises d j i more within))
       ]
     ]
   where
@@ -200,15 +199,6 @@ rank-before {E} {N} name lt same o entries order are d m n i j within at inside 
     own-same same_number =
         let a = name (get_or entries m d) in
         ap (λ (y : ℕ). lt a (name (get_or entries y d))) (sym same_number) ∙ false_from_ne_true (lt a a) (λ less. both_ways (lt a a) (o.one_way a a less) less)
-
-    not-less : i ≡ j → nat_lt i j ≡ false
-    not-less level = grind (arith, nat_tests)
-
-    is-less : i < j → nat_lt i j ≡ true
-    is-less less = grind (arith, nat_tests)
-
-    is-not-less : j < i → nat_lt i j ≡ false
-    is-not-less more = grind (arith, nat_tests)
 
 -- the names past the rank of an entry are greater than its own
 pub first_past-rank : {E N : Type 0} (name : E → N) (lt same : N → N → Bool) → IsOrder lt same → (entries : List E) (order : List ℕ) → AreRanked name lt entries order
