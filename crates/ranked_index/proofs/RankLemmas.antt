@@ -59,26 +59,25 @@ module _ (ns : List ℕ) (place n : ℕ) (fits : place ≤ length ns) where
   pub inserted_pairs : (R : ℕ → ℕ → Type 0) → ((i j : ℕ) → i < j → j < length ns → R (slice_index ns i) (slice_index ns j))
       → ((i : ℕ) → i < place → R (slice_index ns i) n) → ((i : ℕ) → place ≤ i → i < length ns → R n (slice_index ns i))
       → (i j : ℕ) → i < j → j < length (insert ns place n) → R (slice_index (insert ns place n) i) (slice_index (insert ns place n) j)
-  inserted_pairs R pairs before after i j less within = by (placed place i) (placed place j)
+  inserted_pairs R pairs before after i j less within = by (placed place j)
     where
       long : length (insert ns place n) ≡ length ns + 1
       long = length-insert ns place n fits
 
-      by : Placed place i → Placed place j → R (slice_index (insert ns place n) i) (slice_index (insert ns place n) j)
-      by (Before a) (Before b) =
-          along R (insert-before ns place n 0 fits i a) (insert-before ns place n 0 fits j b) (pairs i j less (omega (arith, fits, b)))
-      by (Before a) (Here b) = along R (insert-before ns place n 0 fits i a) (insert-here ns place n 0 fits j b) (before i a)
-      by (Before a) (Past k next high) =
-          along R (insert-before ns place n 0 fits i a) (insert-past ns place n 0 fits j k next high) (pairs i k (omega arith) (omega (arith, within, next, long)))
-      by (Here a) (Before b) = absurd (omega (arith, less, a, b))
-      by (Here a) (Here b) = absurd (omega (arith, less, a, b))
-      by (Here a) (Past k next high) =
-          along R (insert-here ns place n 0 fits i a) (insert-past ns place n 0 fits j k next high) (after k high (omega (arith, within, next, long)))
-      by (Past h next high) (Before b) = absurd (omega (arith, less, next, high, b))
-      by (Past h next high) (Here b) = absurd (omega (arith, less, next, high, b))
-      by (Past h next high) (Past k next' high') =
-          along R (insert-past ns place n 0 fits i h next high) (insert-past ns place n 0 fits j k next' high')
-          (pairs h k (omega (arith, less, next, next')) (omega (arith, within, next', long)))
+      by : Placed place j → R (slice_index (insert ns place n) i) (slice_index (insert ns place n) j)
+      by (Before low) =
+          along R (insert-before ns place n 0 fits i (omega (arith, less, low))) (insert-before ns place n 0 fits j low) (pairs i j less (omega (arith, fits, low)))
+      by (Here same) =
+          let low : i < place = omega (arith, less, same) in
+          along R (insert-before ns place n 0 fits i low) (insert-here ns place n 0 fits j same) (before i low)
+      by (Past k next high) =
+          let below : k < length ns = omega (arith, within, next, long) in
+          let at_k = insert-past ns place n 0 fits j k next high in
+          elim (placed place i) [
+            | Before low ↦ along R (insert-before ns place n 0 fits i low) at_k (pairs i k (omega (arith, low, high)) below)
+            | Here same ↦ along R (insert-here ns place n 0 fits i same) at_k (after k high below)
+            | Past h after_h high_h ↦ along R (insert-past ns place n 0 fits i h after_h high_h) at_k (pairs h k (omega (arith, less, next, after_h)) below)
+          ]
 
 module _ (ns : List ℕ) (place : ℕ) (inside : place < length ns) where
   -- what holds of each other number holds of each that is left
