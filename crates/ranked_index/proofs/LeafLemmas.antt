@@ -1,13 +1,13 @@
 -- Leaves that are written.
-use Rattle.std.proofs.Common.{◌≡◌, ℕ, ◌+◌, ◌-◌, ◌<◌, ◌≤◌, inl, inr, List, length, take, drop, set, sym, ap, ◌∙◌, arith, get_or-set_other}
-use Rattle.std.proofs.lemmas.Bool.{cases_lt, cases_eq}
+use Rattle.std.proofs.Common.{◌≡◌, ℕ, ◌+◌, ◌<◌, ◌≤◌, List, length, take, drop, set, sym, ap, ◌∙◌, arith, get_or-set_other}
 use Rattle.std.proofs.lemmas.List.{drop-set-add, get_or-drop, get_or-take, ext_get_or, length-take-le, length-drop}
-use Rattle.std.proofs.lemmas.List.Edits.{length-insert, get_or-insert_at, get_or-insert_below, get_or-insert_above}
+use Rattle.std.proofs.lemmas.List.Edits.{length-insert}
 use Rattle.std.specs.List.{insert}
 use Rattle.std.proofs.Math.Seq.{take-set-lt}
 use Rattle.std.specs.Prelude.{get_or}
 use Rattle.ranked_index.specs.declared.tree.Node.{Node}
 use Rattle.ranked_index.specs.Tree.{no_node, zero_node, node_at, IsTree, IsLeastTree, IsShifted, IsPowerOfTwo}
+use Rattle.ranked_index.proofs.RankLemmas.{insert-before, insert-here, insert-past, placed, Before, Here, Past}
 
 -- what is the same past a place
 pub same_past : (last : ℕ) (old new : List Node) → ((place : ℕ) → last < place → drop place new ≡ drop place old)
@@ -59,21 +59,14 @@ leaves-insert old new first_leaf len place n halves same room within shifted =
     (omega (arith, longer, length-insert leaves place n inside))
     (λ i below.
     let here : get_or (take (len + 1) (drop first_leaf new)) i zero_node ≡ node_at new (first_leaf + i) = leaf_at-place new first_leaf (len + 1) i (omega arith) in
-    elim (cases_lt i place) [
-      | inl before ↦
-          here ∙ shifted.before (first_leaf + i) (omega arith) ∙ sym (leaf_at-place old first_leaf len i (omega arith))
-          ∙ sym (get_or-insert_below leaves place n zero_node i before inside)
-      | inr after ↦ elim (cases_eq i place) [
-        | inl at ↦
-            here ∙ ap (λ (k : ℕ). node_at new (first_leaf + k)) at ∙ shifted.here
-            ∙ sym (ap (λ (k : ℕ). get_or (insert leaves place n) k zero_node) at ∙ get_or-insert_at leaves place n zero_node inside)
-        | inr other ↦
-            let one : first_leaf + i ≡ first_leaf + (i - 1) + 1 = omega arith in
-            let next : i ≡ (i - 1) + 1 = omega arith in
-            here ∙ ap (node_at new) one ∙ shifted.moved (first_leaf + (i - 1)) (omega arith) (omega arith)
-            ∙ sym (leaf_at-place old first_leaf len (i - 1) (omega arith))
-            ∙ sym (ap (λ (k : ℕ). get_or (insert leaves place n) k zero_node) next ∙ get_or-insert_above leaves place n zero_node (i - 1) (omega arith) inside)
-      ]
+    elim (placed place i) [
+      | Before low ↦
+          here ∙ shifted.before (first_leaf + i) (omega arith) ∙ sym (leaf_at-place old first_leaf len i (omega arith)) ∙ sym (insert-before leaves place n zero_node inside i low)
+      | Here at ↦ here ∙ ap (λ (k : ℕ). node_at new (first_leaf + k)) at ∙ shifted.here ∙ sym (insert-here leaves place n zero_node inside i at)
+      | Past j next high ↦
+          let one : first_leaf + i ≡ first_leaf + j + 1 = omega arith in
+          here ∙ ap (node_at new) one ∙ shifted.moved (first_leaf + j) (omega arith) (omega arith)
+          ∙ sym (leaf_at-place old first_leaf len j (omega arith)) ∙ sym (insert-past leaves place n zero_node inside i j next high)
     ])
 
 pub least_tree-insert : (old shifted new : List Node) (first_leaf len place : ℕ) (n : Node) → IsLeastTree old first_leaf len → length new ≡ length old → len < first_leaf → place ≤ len
