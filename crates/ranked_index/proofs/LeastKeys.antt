@@ -61,20 +61,18 @@ pub least_key-is : (keys : List (Option ℕ)) → IsLeast (least_key keys) keys
 least_key-is [] = record { met = λ key same. absurd (cc); lower = λ i key within same. absurd (omega arith) }
 least_key-is (key ∷ keys) = least_more key (least_key keys) keys (least_key-is keys)
 
+-- the least of the keys is at most another that is the least
+lowest : (a : Option ℕ) (n : ℕ) (keys : List (Option ℕ)) → IsLeast a keys → IsLeast (Some n) keys → IsAtMost a n
+lowest a n keys is is' = let at = is'.met n refl in is.lower at.at n at.within at.is
+
 -- there is one least
 pub least-same : (a b : Option ℕ) (keys : List (Option ℕ)) → IsLeast a keys → IsLeast b keys → a ≡ b
 least-same None None keys is is' = refl
-least-same None (Some n) keys is is' =
-    let at = is'.met n refl in
-    let low = is.lower at.at n at.within at.is in let none : None ≡ Some low.low = low.is in absurd (cc)
-least-same (Some m) None keys is is' =
-    let at = is.met m refl in
-    let low = is'.lower at.at m at.within at.is in let none : None ≡ Some low.low = low.is in absurd (cc)
+least-same None (Some n) keys is is' = let low = lowest None n keys is is' in let none : None ≡ Some low.low = low.is in absurd (cc)
+least-same (Some m) None keys is is' = let low = lowest None m keys is' is in let none : None ≡ Some low.low = low.is in absurd (cc)
 least-same (Some m) (Some n) keys is is' =
-    let at = is'.met n refl in
-    let low = is.lower at.at n at.within at.is in
-    let at' = is.met m refl in
-    let low' = is'.lower at'.at m at'.within at'.is in
+    let low = lowest (Some m) n keys is is' in
+    let low' = lowest (Some n) m keys is' is in
     ap Some (omega (arith, low.le, low'.le, same_Some m low.low low.is, same_Some n low'.low low'.is))
 
 -- rows of the same keys have the same least key
