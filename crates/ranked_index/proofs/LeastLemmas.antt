@@ -73,6 +73,10 @@ module _ {E N : Type 0} (name : E → N) (lt same : N → N → Bool) (o : IsOrd
   abbrev pub names_of : (E → Bool) → List E → List N
   names_of passes entries = map name (filter passes entries)
 
+  -- where no name is given, all are past it
+  pub all_past : (entries : List E) (order : List ℕ) → IsFirstPast name lt None entries order 0
+  all_past entries order = record { within = omega arith; before = λ d i low. absurd (omega (arith, low)); past = λ d i reached within. refl }
+
   -- the names of those that pass, where the first does or doesn't
   by_first : (P : List N → Type 0) (passes : E → Bool) (e : E) (es : List E) → (passes e ≡ true → P (name e ∷ names_of passes es)) → (passes e ≡ false → P (names_of passes es)) → P (names_of passes (e ∷ es))
   by_first P passes e es there isnt = cond_both (passes e) (e ∷ filter passes es) (filter passes es) (λ kept. P (map name kept)) there isnt
@@ -208,9 +212,6 @@ module _ {E N : Type 0} (name : E → N) (lt same : N → N → Bool) (o : IsOrd
                 and_left (passes (entry_at entries order d i)) (is_above lt after (name (entry_at entries order d i))) (passes_at i (omega arith) ∙ met.before i reached low)
           ])
 
-      all_past : IsFirstPast name lt None entries order 0
-      all_past = record { within = omega arith; before = λ d i low. absurd (omega arith); past = λ d i reached within. refl }
-
       either : (a b : Option ℕ) → or_else (option_map name_under (option_map (slice_index order) a)) (option_map name_under (option_map (slice_index order) b)) ≡ option_map name_under (option_map (slice_index order) (or_else a b))
       either None b = refl
       either (Some rank) b = refl
@@ -221,5 +222,5 @@ module _ {E N : Type 0} (name : E → N) (lt same : N → N → Bool) (o : IsOrd
       next_by_rank after from first =
           sym (
           ap (λ found. or_else found (least lt (names_of passes entries))) (least_past after from first (first_at_most from bound keys) refl)
-          ∙ ap (or_else (option_map name_under (option_map (slice_index order) (first_at_most from bound keys)))) (least_past None 0 all_past (first_at_most 0 bound keys) refl)
+          ∙ ap (or_else (option_map name_under (option_map (slice_index order) (first_at_most from bound keys)))) (least_past None 0 (all_past entries order) (first_at_most 0 bound keys) refl)
           ∙ either (first_at_most from bound keys) (first_at_most 0 bound keys))

@@ -11,7 +11,7 @@ use Rattle.ranked_index.specs.Ranked.{entry_at, IsFirstPast}
 use Rattle.ranked_index.specs.Listed.{AreListed, AreListedBut, AreRising, IsListed}
 use Rattle.ranked_index.proofs.EntryLemmas.{name_kept}
 use Rattle.ranked_index.proofs.RankLemmas.{insert-before, insert-here, insert-past, inserted_each, inserted_pairs, removed_each, removed_pairs, room_below}
-use Rattle.ranked_index.proofs.LeastLemmas.{above_where, least_is, least_none, names_of}
+use Rattle.ranked_index.proofs.LeastLemmas.{above_where, all_past, least_is, least_none, names_of}
 
 module _ {E N : Type 0} (name : E → N) (lt same : N → N → Bool) (o : IsOrder lt same) (passes : E → Bool) where
   not_self : (a : N) → lt a a ≡ true → ⊥
@@ -231,9 +231,6 @@ module _ {E N : Type 0} (name : E → N) (lt same : N → N → Bool) (o : IsOrd
       both_ways (is_above lt after (name (get_or entries j d)))
       (ap (λ (n : ℕ). is_above lt after (name (get_or entries n d))) (sym is.at) ∙ first.before d is.place (omega (arith, end, is.within))) parts.1))
 
-  all_past : (entries : List E) (numbers : List ℕ) → IsFirstPast name lt None entries numbers 0
-  all_past entries numbers = record { within = omega arith; before = λ d i low. absurd (omega (arith, low)); past = λ d i reached within. refl }
-
   pub next_listed-past : (entries : List E) (numbers : List ℕ) (after : Option N) (past : ℕ) (d : E) → AreListed name lt passes entries numbers → IsFirstPast name lt after entries numbers past
       → past < length numbers → next_after lt after (map name (filter passes entries)) ≡ Some (name (entry_at entries numbers d past))
   next_listed-past entries numbers after past d are first within =
@@ -243,7 +240,7 @@ module _ {E N : Type 0} (name : E → N) (lt same : N → N → Bool) (o : IsOrd
       → length numbers ≤ past → 0 < length numbers → next_after lt after (map name (filter passes entries)) ≡ Some (name (entry_at entries numbers d 0))
   next_listed-first entries numbers after past d are first end some =
       ap (λ (found : Option N). or_else found (least lt (map name (filter passes entries)))) (none_past entries numbers after past d are first end)
-      ∙ least_past entries numbers None 0 d are (all_past entries numbers) some
+      ∙ least_past entries numbers None 0 d are (all_past name lt same o entries numbers) some
 
   pub next_listed-none : (entries : List E) (numbers : List ℕ) (after : Option N) → AreListed name lt passes entries numbers → length numbers ≡ 0
       → next_after lt after (map name (filter passes entries)) ≡ None
@@ -251,7 +248,7 @@ module _ {E N : Type 0} (name : E → N) (lt same : N → N → Bool) (o : IsOrd
   next_listed-none [] numbers (Some a) are empty = refl
   next_listed-none (d ∷ entries) numbers after are empty =
       ap (λ (found : Option N). or_else found (least lt (map name (filter passes (d ∷ entries))))) (none_past (d ∷ entries) numbers after 0 d are first (omega (arith, empty)))
-      ∙ none_past (d ∷ entries) numbers None 0 d are (all_past (d ∷ entries) numbers) (omega (arith, empty))
+      ∙ none_past (d ∷ entries) numbers None 0 d are (all_past name lt same o (d ∷ entries) numbers) (omega (arith, empty))
     where
       first : IsFirstPast name lt after (d ∷ entries) numbers 0
       first = record { within = omega arith; before = λ e i low. absurd (omega (arith, low)); past = λ e i high within. absurd (omega (arith, within, empty)) }
