@@ -1,26 +1,23 @@
-use Rattle.std.proofs.Common.{ap, subst, sym, vec_capacity}
+use Rattle.std.proofs.Common.{ap, vec_capacity}
 use Rattle.stream_ident.specs.Words.{past}
 use Rattle.consumer_grain.specs.Activations.{begin, PlainActivation}
 use Rattle.consumer_grain.specs.declared.told.Begun.{Begun}
-use Rattle.grain_table.specs.Grains.{PlainGrains}
-use Rattle.grain_table.specs.Table.{IsKept, IsKeptBut}
 use Rattle.grain_table.proofs.ChangeLemmas.{changed, changed-but, changed-ranked}
 use Rattle.grain_table.proofs.table.GrainTable.begin.Goals as goal
 
 pub settle-self-inside-requires : goal.settle-self-inside-requires
 settle-self-inside-requires c =
     let t = c.self.inside in
-    subst (λ (gs : PlainGrains). IsKeptBut c.args.number c.standing_of-before.result gs t.ready.items (vec_capacity t.ready) t.running) (sym c.deref.ensures.value)
+    rw c.deref.ensures.value
     (changed-but t.entries.items c.args.self.now c.args.number c.index_mut.result.now c.index_mut.ensures.value c.self.view_is c.requires t.order.items t.ready.items (vec_capacity t.ready) t.running c.self.invariant
     c.begin-begun.new.self c.standing_of-before.result c.standing_of-before.ensures)
 
 pub invariant_of-self : goal.invariant_of-self
 invariant_of-self c =
     let t = c.self.inside in
-    let new = c.settle-self-inside in
     record {
       ranked = changed-ranked t.entries.items c.args.self.now c.args.number c.index_mut.result.now c.index_mut.ensures.value c.self.view_is c.requires t.order.items t.ready.items (vec_capacity t.ready) t.running c.self.invariant c.begin-begun.new.self;
-      kept = subst (λ (gs : PlainGrains). IsKept gs new.new.ready.items (vec_capacity new.new.ready) new.result) c.deref.ensures.value new.ensures;
+      kept = rw c.deref.ensures.value at c.settle-self-inside.ensures;
     }
 
 pub returns-clause-grains : goal.returns-clause-grains
