@@ -1,10 +1,7 @@
-use Rattle.std.proofs.Common.{◌≡◌, ◌∙◌, ap, sym, subst, refl, ℕ, ◌-◌, ◌<◌, length, Bool, true, false, true≢false, IsTrue, ◌↔◌, List, Option, Some, None, slice_index, arith}
+use Rattle.std.proofs.Common.{◌≡◌, ◌∙◌, ap, sym, refl, ℕ, ◌-◌, ◌<◌, length, Bool, true, false, true≢false, IsTrue, ◌↔◌, Option, Some, None, slice_index, arith}
 use Rattle.std.proofs.lemmas.List.{get_or_default}
 use Rattle.std.specs.Bool.{then_some}
-use Rattle.stream_ident.specs.Name.{grain_lt}
-use Rattle.ranked_index.specs.Ranked.{IsFirstPast}
 use Rattle.grain_table.specs.Grains.{PlainGrains, number_of}
-use Rattle.grain_table.specs.Table.{name_of}
 use Rattle.grain_table.proofs.TableLemmas.{last-named, number_of-found}
 use Rattle.grain_table.proofs.table.GrainTable.find.Goals as goal
 
@@ -25,8 +22,7 @@ returns-then-past-eq0-clause-number c =
     let t = c.self.inside in
     let grain = c.args.grain.now in
     let past = c.first_past-past.result in
-    let first = subst (λ (gs : PlainGrains). IsFirstPast name_of grain_lt (Some grain) gs t.order.items past) c.deref-2.ensures.value
-    (subst (λ (ns : List ℕ). IsFirstPast name_of grain_lt (Some grain) c.deref-2.result.now ns past) c.deref-3.ensures.value c.first_past-past.ensures) in
+    let first = rw (c.deref-2.ensures.value, c.deref-3.ensures.value) at c.first_past-past.ensures in
     none-where (number_of c.args.self.now grain)
     (λ number there. omega (arith, c.if-past-eq0.true, (last-named t.entries.items t.order.items grain past number c.self.invariant.ranked first (ap (λ (gs : PlainGrains). number_of gs grain) c.self.view_is ∙ there)).0))
 
@@ -36,8 +32,7 @@ returns-clause-number c =
     let grain = c.args.grain.now in
     let past = c.first_past-past.result in
     let number = c.index-number.result.now in
-    let first = subst (λ (gs : PlainGrains). IsFirstPast name_of grain_lt (Some grain) gs t.order.items past) c.deref-2.ensures.value
-    (subst (λ (ns : List ℕ). IsFirstPast name_of grain_lt (Some grain) c.deref-2.result.now ns past) c.deref-3.ensures.value c.first_past-past.ensures) in
+    let first = rw (c.deref-2.ensures.value, c.deref-3.ensures.value) at c.first_past-past.ensures in
     let below : past - 1 < length t.order.items = omega (arith, first.within, c.if-past-eq0.false) in
     let at : number ≡ slice_index t.order.items (past - 1) = c.index-number.ensures ∙ get_or_default t.order.items (past - 1) number 0 below in
     c.then_some.ensures

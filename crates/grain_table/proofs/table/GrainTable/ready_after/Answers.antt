@@ -1,9 +1,8 @@
-use Rattle.std.proofs.Common.{◌≡◌, ◌∙◌, ap, sym, subst, ℕ, ◌<◌, ◌≤◌, List, length, get_or, Some, arith}
+use Rattle.std.proofs.Common.{◌≡◌, ◌∙◌, ap, sym, ℕ, ◌<◌, ◌≤◌, List, length, get_or, Some, arith}
 use Rattle.std.proofs.lemmas.Bool.{ltb-false, ltb-true}
 use Rattle.std.specs.Option.{option_copied}
 use Rattle.stream_ident.specs.declared.ident.GrainId.{GrainId}
-use Rattle.stream_ident.specs.Name.{grain_lt}
-use Rattle.ranked_index.specs.Ranked.{entry_at, IsFirstPast}
+use Rattle.ranked_index.specs.Ranked.{entry_at}
 use Rattle.grain_table.specs.Changes.{no_grain}
 use Rattle.grain_table.specs.Grains.{PlainGrains, ready_after}
 use Rattle.grain_table.specs.Table.{name_of}
@@ -34,8 +33,7 @@ returns c =
     let past = c.first_past-past.result in
     let place = c.if-past-ready.place in
     let number = c.in_ok-number.field-0.now in
-    let first = subst (λ (gs : PlainGrains). IsFirstPast name_of grain_lt after gs numbers past) c.deref.ensures.value
-    (subst (λ (ns : List ℕ). IsFirstPast name_of grain_lt after c.deref.result.now ns past) c.as_slice-ready.ensures.value c.first_past-past.ensures) in
+    let first = rw (c.deref.ensures.value, c.as_slice-ready.ensures.value) at c.first_past-past.ensures in
     let within : place < length numbers = omega (arith, ltb-true place (length c.as_slice-ready.result.now) (sym c.in_ok-number.ensures.lookup.0), ap length c.as_slice-ready.ensures.value) in
     let next : Some (name_of (entry_at grains numbers no_grain place)) ≡ ready_after grains after = elim c.if-past-ready.branch [
       | then-past-ready w ↦
