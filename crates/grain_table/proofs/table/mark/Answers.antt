@@ -1,9 +1,6 @@
-use Rattle.std.proofs.Common.{◌≡◌, ◌∙◌, ap, sym, subst, refl, ℕ, Bool, true, false, true≢false, not, List, insert, is_ok, Some, if◌then◌else◌, get_or, arith}
+use Rattle.std.proofs.Common.{◌≡◌, ◌∙◌, ap, sym, refl, Bool, true, false, true≢false, not, insert, is_ok, if◌then◌else◌, arith}
 use Rattle.std.proofs.Math.Bool.{beq}
-use Rattle.stream_ident.specs.Name.{grain_lt}
 use Rattle.ranked_index.specs.Listed.{IsListed}
-use Rattle.ranked_index.specs.Ranked.{IsFirstPast}
-use Rattle.grain_table.specs.Table.{name_of, AreReady}
 use Rattle.grain_table.specs.declared.table.Standing.{Standing}
 use Rattle.grain_table.proofs.TableLemmas.{has-room, last-before, put-in, stays, taken-out}
 use Rattle.grain_table.proofs.table.mark.Goals as goal
@@ -33,7 +30,7 @@ overflow_sub-past c =
     let d = c.index-entries-number.result in
     let past = c.first_past-past.result in
     let was = differs c.args.before.is_ready c.args.now.is_ready c.if-before-now.false ∙ ap not c.if-now.false in
-    let first = subst (λ (ns : List ℕ). IsFirstPast name_of grain_lt (Some (get_or grains c.args.number d).0) grains ns past) c.as_slice.ensures.value c.first_past-past.ensures in
+    let first = rw c.as_slice.ensures.value at c.first_past-past.ensures in
     omega (arith, (last-before grains numbers c.args.number c.requires.number c.requires.ready d past first (c.requires.before.0 was)).0)
 
 pub returns-else-now-clause-ready : goal.returns-else-now-clause-ready
@@ -43,8 +40,8 @@ returns-else-now-clause-ready c =
     let d = c.index-entries-number.result in
     let past = c.first_past-past.result in
     let was = differs c.args.before.is_ready c.args.now.is_ready c.if-before-now.false ∙ ap not c.if-now.false in
-    let first = subst (λ (ns : List ℕ). IsFirstPast name_of grain_lt (Some (get_or grains c.args.number d).0) grains ns past) c.as_slice.ensures.value c.first_past-past.ensures in
-    subst (AreReady grains) (sym c.remove.ensures.items)
+    let first = rw c.as_slice.ensures.value at c.first_past-past.ensures in
+    rw c.remove.ensures.items
     (taken-out grains numbers c.args.number c.requires.number c.requires.ready d past first (c.requires.before.0 was)
     (ap (λ (s : Standing). s.is_ready) (sym c.requires.now) ∙ c.if-now.false))
 
@@ -70,8 +67,8 @@ returns-then-now-clause-ready c =
     let past = c.first_past-past.result in
     let was = differs c.args.before.is_ready c.args.now.is_ready c.if-before-now.false ∙ ap not c.if-now.true in
     let isnt : IsListed numbers c.args.number → ⊥ = λ there. true≢false (sym (c.requires.before.1 there) ∙ was) in
-    let first = subst (λ (ns : List ℕ). IsFirstPast name_of grain_lt (Some (get_or grains c.args.number d).0) grains ns past) c.as_slice.ensures.value c.first_past-past.ensures in
+    let first = rw c.as_slice.ensures.value at c.first_past-past.ensures in
     let put : c.insert.new.self.items ≡ insert numbers past c.args.number = c.insert.ensures.items ∙ ap (λ r. if is_ok r then insert numbers past c.args.number else numbers) c.unwrap.ensures in
-    subst (AreReady grains) (sym put)
+    rw put
     (put-in grains numbers c.args.number c.requires.number c.requires.ready d past first c.requires.distinct isnt
     (ap (λ (s : Standing). s.is_ready) (sym c.requires.now) ∙ c.if-now.true))
