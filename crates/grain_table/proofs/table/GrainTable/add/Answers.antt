@@ -1,11 +1,8 @@
-use Rattle.std.proofs.Common.{◌≡◌, ◌∙◌, ap, sym, subst, ℕ, ◌+◌, ◌≤◌, ◌^◌, ◌++◌, ◌∷◌, [], List, Some, is_ok, insert, if◌then◌else◌, false, length, vec_capacity, arith}
+use Rattle.std.proofs.Common.{◌≡◌, ◌∙◌, ap, ℕ, ◌+◌, ◌≤◌, ◌^◌, ◌++◌, ◌∷◌, [], List, is_ok, insert, if◌then◌else◌, length, vec_capacity, arith}
 use Rattle.std.proofs.lemmas.List.{length_push}
-use Rattle.stream_ident.specs.Name.{grain_lt}
 use Rattle.stream_ident.specs.declared.ident.GrainId.{GrainId}
 use Rattle.consumer_grain.specs.Activations.{PlainActivation}
-use Rattle.ranked_index.specs.Ranked.{AreRanked, IsFirstPast}
 use Rattle.grain_table.specs.Grains.{PlainGrains, number_of}
-use Rattle.grain_table.specs.Table.{name_of, IsKept, IsKeptBut}
 use Rattle.grain_table.proofs.ChangeLemmas.{added-but}
 use Rattle.grain_table.proofs.TableLemmas.{distinct-ranked, ranked-more}
 use Rattle.grain_table.proofs.table.GrainTable.add.Goals as goal
@@ -19,15 +16,12 @@ settle-self-inside-requires c =
     let number : c.len-number.result ≡ length grains = omega arith in
     let room = vec_capacity c.reserve.new.self in
     let more : c.push_reserved.new.self.items ≡ grains ++ e ∷ [] = c.push_reserved.ensures.items ∙ ap (λ (gs : PlainGrains). gs ++ e ∷ []) c.in_ok-reserve-3.ensures.items in
-    let first = subst (λ (gs : PlainGrains). IsFirstPast name_of grain_lt (Some e.0) gs t.order.items past) (c.deref-2.ensures.value ∙ c.in_ok-reserve-3.ensures.items)
-    (subst (λ (ns : List ℕ). IsFirstPast name_of grain_lt (Some e.0) c.deref-2.result.now ns past) (c.deref-3.ensures.value ∙ c.in_ok-reserve-2.ensures.items) c.first_past-past.ensures) in
+    let first = rw (c.deref-2.ensures.value ∙ c.in_ok-reserve-3.ensures.items, c.deref-3.ensures.value ∙ c.in_ok-reserve-2.ensures.items) at c.first_past-past.ensures in
     let ranked = ranked-more grains t.order.items past e c.self.invariant.ranked first (ap (λ (gs : PlainGrains). number_of gs e.0) c.self.view_is ∙ c.requires) in
     let fits : length grains + 1 ≤ room = omega (arith, c.len-number.ensures, c.len.ensures, c.min.ensures, c.in_ok-reserve.ensures.len, c.in_ok-reserve.ensures.ok) in
     let few : length grains + 1 ≤ 2 ^ 63 = omega (arith, ap length more, length_push grains e, c.push_reserved.new.self.small) in
-    subst (λ (gs : PlainGrains). IsKeptBut c.len-number.result (record { is_ready = false; runs = false }) gs c.reserve.new.self.items room t.running) (sym (c.deref-4.ensures.value ∙ more))
-    (subst (λ (ns : List ℕ). IsKeptBut c.len-number.result (record { is_ready = false; runs = false }) (grains ++ e ∷ []) ns room t.running) (sym c.in_ok-reserve.ensures.items)
-    (subst (λ (n : ℕ). IsKeptBut n (record { is_ready = false; runs = false }) (grains ++ e ∷ []) t.ready.items room t.running) (sym number)
-    (added-but grains t.ready.items (vec_capacity t.ready) t.running room e c.self.invariant.kept (distinct-ranked (grains ++ e ∷ []) _ ranked) fits few)))
+    rw (c.deref-4.ensures.value, more, c.in_ok-reserve.ensures.items, number)
+    (added-but grains t.ready.items (vec_capacity t.ready) t.running room e c.self.invariant.kept (distinct-ranked (grains ++ e ∷ []) _ ranked) fits few)
 
 pub invariant_of-self-2 : goal.invariant_of-self-2
 invariant_of-self-2 c =
@@ -36,15 +30,13 @@ invariant_of-self-2 c =
     let e : GrainId × PlainActivation = (c.args.grain, c.in_ok-activation.activation) in
     let past = c.first_past-past.result in
     let number : c.len-number.result ≡ length grains = omega arith in
-    let new = c.settle-self-inside in
     let more : c.push_reserved.new.self.items ≡ grains ++ e ∷ [] = c.push_reserved.ensures.items ∙ ap (λ (gs : PlainGrains). gs ++ e ∷ []) c.in_ok-reserve-3.ensures.items in
-    let first = subst (λ (gs : PlainGrains). IsFirstPast name_of grain_lt (Some e.0) gs t.order.items past) (c.deref-2.ensures.value ∙ c.in_ok-reserve-3.ensures.items)
-    (subst (λ (ns : List ℕ). IsFirstPast name_of grain_lt (Some e.0) c.deref-2.result.now ns past) (c.deref-3.ensures.value ∙ c.in_ok-reserve-2.ensures.items) c.first_past-past.ensures) in
+    let first = rw (c.deref-2.ensures.value ∙ c.in_ok-reserve-3.ensures.items, c.deref-3.ensures.value ∙ c.in_ok-reserve-2.ensures.items) at c.first_past-past.ensures in
     let ranked = ranked-more grains t.order.items past e c.self.invariant.ranked first (ap (λ (gs : PlainGrains). number_of gs e.0) c.self.view_is ∙ c.requires) in
     let put : c.insert.new.self.items ≡ insert t.order.items past (length grains) =
     c.insert.ensures.items ∙ ap (λ r. if is_ok r then insert c.reserve-2.new.self.items past c.len-number.result else c.reserve-2.new.self.items) c.unwrap.ensures
     ∙ ap (λ (ns : List ℕ). insert ns past c.len-number.result) c.in_ok-reserve-2.ensures.items ∙ ap (insert t.order.items past) number in
     record {
-      ranked = subst (λ (gs : PlainGrains). AreRanked name_of grain_lt gs c.insert.new.self.items) (sym more) (subst (AreRanked name_of grain_lt (grains ++ e ∷ [])) (sym put) ranked);
-      kept = subst (λ (gs : PlainGrains). IsKept gs new.new.ready.items (vec_capacity new.new.ready) new.result) c.deref-4.ensures.value new.ensures;
+      ranked = rw (more, put) ranked;
+      kept = rw c.deref-4.ensures.value at c.settle-self-inside.ensures;
     }
