@@ -2,8 +2,8 @@
 use Rattle.std.proofs.Common.{◌≡◌, ◌∙◌, ℕ, zero, suc, ◌+◌, ◌-◌, ◌/◌, ◌<◌, ◌≤◌, ◌⊎◌, inl, inr, List, length, drop, take, set, refl, sym, ap, ap₂, arith, length-set, get_or-set_other}
 use Rattle.ranked_index.specs.Keys.{filled}
 use Rattle.ranked_index.specs.declared.tree.Node.{Node}
-use Rattle.ranked_index.specs.Tree.{lesser_node, zero_node, node_at, IsLeastTree, IsLesser, IsTree, IsTreeBut}
-use Rattle.ranked_index.proofs.LeafLemmas.{least_tree-again, leaves-set}
+use Rattle.ranked_index.specs.Tree.{lesser_node, zero_node, node_at, IsLesser, IsTree, IsTreeBut}
+use Rattle.ranked_index.proofs.LeafLemmas.{leaves-set}
 
 pub length-filled : (from count : ℕ) (n : Node) (xs : List Node) → length (filled from count n xs) ≡ length xs
 length-filled from zero n xs = refl
@@ -23,11 +23,6 @@ leaves-filled nodes first_leaf len from (suc count) n fits =
     let at : first_leaf + from + count ≡ first_leaf + (from + count) = omega arith in
     leaves-set was (set was (first_leaf + from + count) n) first_leaf len (from + count) n (ap (λ (k : ℕ). drop first_leaf (set was k n)) at) (omega arith)
     ∙ ap (λ (leaves : List Node). set leaves (from + count) n) (leaves-filled nodes first_leaf len from count n (omega arith))
-
-pub least_tree-filled : (old new : List Node) (first_leaf len from count : ℕ) (n : Node) → IsLeastTree old first_leaf len → length new ≡ length old → from + count ≤ len → IsTree new
-    → ((i : ℕ) → first_leaf + len ≤ i → node_at new i ≡ node_at (filled (first_leaf + from) count n old) i) → IsLeastTree new first_leaf len
-least_tree-filled old new first_leaf len from count n is same fits tree past =
-    least_tree-again old new first_leaf len len is same is.room tree (λ leaf after to. past leaf after ∙ filled-other (first_leaf + from) count n old leaf (inr (omega arith)) ∙ is.unused leaf after to)
 
 -- only the parents of the places may not be the lesser of their children
 pub tree-filled : (nodes : List Node) (first_leaf first end : ℕ) (n : Node) → IsTree nodes → length nodes ≡ first_leaf + first_leaf → first_leaf ≤ first → first < end → IsTreeBut (first / 2) ((end - 1) / 2) (filled first (end - first) n nodes)

@@ -1,5 +1,5 @@
 -- Leaves that are written.
-use Rattle.std.proofs.Common.{◌≡◌, ℕ, ◌+◌, ◌<◌, ◌≤◌, List, length, take, drop, set, sym, ap, ◌∙◌, arith, get_or-set_other}
+use Rattle.std.proofs.Common.{◌≡◌, ℕ, ◌+◌, ◌<◌, ◌≤◌, List, length, take, drop, set, sym, ap, ◌∙◌, arith}
 use Rattle.std.proofs.lemmas.List.{drop-set-add, get_or-drop, get_or-take, ext_get_or, length-take-le, length-drop}
 use Rattle.std.proofs.lemmas.List.Edits.{length-insert}
 use Rattle.std.specs.List.{insert}
@@ -42,11 +42,6 @@ least_tree-again old new first_leaf len len' is same room tree unused = record {
   unused = λ leaf from to. unused leaf from (omega arith);
 }
 
-pub least_tree-set : (old new : List Node) (first_leaf len place : ℕ) (n : Node) → IsLeastTree old first_leaf len → length new ≡ length old → place < len → IsTree new
-    → ((i : ℕ) → first_leaf + len ≤ i → node_at new i ≡ node_at (set old (first_leaf + place) n) i) → IsLeastTree new first_leaf len
-least_tree-set old new first_leaf len place n is same within tree past =
-    least_tree-again old new first_leaf len len is same is.room tree (λ leaf from to. past leaf from ∙ get_or-set_other old (first_leaf + place) leaf n zero_node (omega arith) ∙ is.unused leaf from to)
-
 -- the leaves from a place on, one further
 pub leaves-insert : (old new : List Node) (first_leaf len place : ℕ) (n : Node) → length old ≡ first_leaf + first_leaf → length new ≡ length old → len < first_leaf → place ≤ len
     → IsShifted old new (first_leaf + place) (first_leaf + len) n → take (len + 1) (drop first_leaf new) ≡ insert (take len (drop first_leaf old)) place n
@@ -68,12 +63,6 @@ leaves-insert old new first_leaf len place n halves same room within shifted =
           here ∙ ap (node_at new) one ∙ shifted.moved (first_leaf + j) (omega arith) (omega arith)
           ∙ sym (leaf_at-place old first_leaf len j (omega arith)) ∙ sym (insert-past leaves place n zero_node inside i j next high)
     ])
-
-pub least_tree-insert : (old shifted new : List Node) (first_leaf len place : ℕ) (n : Node) → IsLeastTree old first_leaf len → length new ≡ length old → len < first_leaf → place ≤ len
-    → IsTree new → IsShifted old shifted (first_leaf + place) (first_leaf + len) n
-    → ((i : ℕ) → first_leaf + len < i → node_at new i ≡ node_at shifted i) → IsLeastTree new first_leaf (len + 1)
-least_tree-insert old shifted new first_leaf len place n is same room within tree shift past =
-    least_tree-again old new first_leaf len (len + 1) is same (omega arith) tree (λ leaf from to. past leaf (omega arith) ∙ shift.past leaf (omega arith) ∙ is.unused leaf (omega arith) to)
 
 -- the leaves of a new tree, between such that are none
 pub least_tree-grown : (leaves items new : List Node) (first_leaf : ℕ) → length leaves < first_leaf → length items ≡ first_leaf + first_leaf → IsPowerOfTwo (first_leaf + first_leaf)

@@ -1,13 +1,13 @@
 -- Leaves of which one is taken out.
 use Rattle.std.proofs.Common.{◌≡◌, ℕ, ◌+◌, ◌-◌, ◌<◌, ◌≤◌, inl, inr, List, length, take, drop, sym, ap, ◌∙◌, arith}
-use Rattle.std.proofs.lemmas.Bool.{cases_lt, cases_eq}
+use Rattle.std.proofs.lemmas.Bool.{cases_lt}
 use Rattle.std.proofs.lemmas.List.{ext_get_or}
 use Rattle.std.proofs.lemmas.List.Edits.{length-remove, get_or-remove_below, get_or-remove_above}
 use Rattle.std.specs.List.{remove}
 use Rattle.std.specs.Prelude.{get_or}
 use Rattle.ranked_index.specs.declared.tree.Node.{Node}
-use Rattle.ranked_index.specs.Tree.{zero_node, node_at, IsTree, IsLeastTree, IsShiftedBack}
-use Rattle.ranked_index.proofs.LeafLemmas.{leaf_at-place, least_tree-again, length_leaves}
+use Rattle.ranked_index.specs.Tree.{zero_node, node_at, IsShiftedBack}
+use Rattle.ranked_index.proofs.LeafLemmas.{leaf_at-place, length_leaves}
 
 -- the leaves past a place, one back
 pub leaves-remove : (old new : List Node) (first_leaf len place : ℕ) → length old ≡ first_leaf + first_leaf → length new ≡ length old → len ≤ first_leaf → place < len
@@ -30,13 +30,4 @@ leaves-remove old new first_leaf len place halves same room within shifted =
           here ∙ shifted.moved (first_leaf + i) (omega arith) (omega arith) ∙ ap (node_at old) one
           ∙ sym (leaf_at-place old first_leaf len (i + 1) (omega arith))
           ∙ sym (get_or-remove_above leaves place zero_node i after inside)
-    ])
-
-pub least_tree-remove : (old shifted new : List Node) (first_leaf len place : ℕ) → IsLeastTree old first_leaf len → length new ≡ length old → place < len
-    → IsTree new → IsShiftedBack old shifted (first_leaf + place) (first_leaf + len)
-    → ((i : ℕ) → first_leaf + len ≤ i + 1 → node_at new i ≡ node_at shifted i) → IsLeastTree new first_leaf (len - 1)
-least_tree-remove old shifted new first_leaf len place is same within tree shift past =
-    least_tree-again old new first_leaf len (len - 1) is same (omega (arith, is.room)) tree (λ leaf from to. past leaf (omega arith) ∙ elim (cases_eq (leaf + 1) (first_leaf + len)) [
-      | inl last ↦ shift.last leaf last
-      | inr more ↦ shift.past leaf (omega arith) ∙ is.unused leaf (omega arith) to
     ])

@@ -1,10 +1,10 @@
-use Rattle.std.proofs.Common.{◌≡◌, ◌∙◌, ℕ, ◌+◌, ◌-◌, ◌/◌, List, drop, take, sym, ap, subst, arith}
+use Rattle.std.proofs.Common.{◌≡◌, ◌∙◌, ℕ, ◌+◌, ◌-◌, ◌/◌, inr, List, drop, take, sym, ap, subst, arith}
 use Rattle.std.specs.Prelude.{length}
 use Rattle.ranked_index.specs.Keys.{filled}
 use Rattle.ranked_index.specs.Tree.{node_at, IsTreeBut}
 use Rattle.ranked_index.specs.declared.tree.Node.{Node}
-use Rattle.ranked_index.proofs.FillLemmas.{leaves-filled, least_tree-filled, length-filled, tree-filled}
-use Rattle.ranked_index.proofs.LeafLemmas.{same_past}
+use Rattle.ranked_index.proofs.FillLemmas.{filled-other, leaves-filled, length-filled, tree-filled}
+use Rattle.ranked_index.proofs.LeafLemmas.{same_past, least_tree-again}
 use Rattle.ranked_index.proofs.tree.fill_leaves.Goals as goal
 
 pub settle-requires-clause-tree : goal.settle-requires-clause-tree
@@ -21,9 +21,10 @@ returns-clause-tree c =
     let count = c.args.to - c.args.from in
     let done : c.loop-leaf.leaf - first ≡ count = omega arith in
     let written : c.loop-leaf.nodes ≡ filled first count c.args.n c.args.nodes.now = c.loop-leaf.invariant ∙ ap (λ (n : ℕ). filled first n c.args.n c.args.nodes.now) done in
-    least_tree-filled c.args.nodes.now c.settle.new.nodes c.args.first_leaf c.args.len c.args.from count c.args.n c.requires.tree
-    (omega (arith, c.settle.auto.nodes, ap length written, length-filled first count c.args.n c.args.nodes.now)) (omega arith) c.settle.ensures.tree
-    (λ i past. same_past ((c.args.first_leaf + c.args.to - 1) / 2) c.loop-leaf.nodes c.settle.new.nodes c.settle.ensures.past i (omega (arith, c.requires.tree.room)) ∙ ap (λ (nodes : List Node). node_at nodes i) written)
+    least_tree-again c.args.nodes.now c.settle.new.nodes c.args.first_leaf c.args.len c.args.len c.requires.tree
+    (omega (arith, c.settle.auto.nodes, ap length written, length-filled first count c.args.n c.args.nodes.now)) c.requires.tree.room c.settle.ensures.tree
+    (λ i past to. same_past ((c.args.first_leaf + c.args.to - 1) / 2) c.loop-leaf.nodes c.settle.new.nodes c.settle.ensures.past i (omega (arith, c.requires.tree.room)) ∙ ap (λ (nodes : List Node). node_at nodes i) written
+    ∙ filled-other first count c.args.n c.args.nodes.now i (inr (omega arith)) ∙ c.requires.tree.unused i past to)
 
 pub returns-clause-leaves : goal.returns-clause-leaves
 returns-clause-leaves c =
