@@ -1,7 +1,9 @@
 -- The least name of the entries that pass, by rank.
 use Rattle.std.proofs.Common.{◌≡◌, ◌∙◌, ap, sym, refl, subst, ℕ, zero, suc, ◌+◌, ◌-◌, ◌<◌, ◌≤◌, ◌⊎◌, inl, inr, Bool, true, false, ◌&&◌, List, [], ◌∷◌, length, get_or, drop, map, filter, Option, Some, None, arith, length-drop}
+use Rattle.std.proofs.Math.Bool.{and-true}
 use Rattle.std.proofs.lemmas.Bool.{and_from, and_left, and_right, both_ways, cases_lt, cases_order, cond_both, cond-true, cond-false}
 use Rattle.std.proofs.lemmas.List.{get_or-drop, get_or-map, length-map}
+use Rattle.std.proofs.lemmas.List.Elements.{filter_agree}
 use Rattle.std.proofs.lemmas.Option.{same_Some}
 use Rattle.std.specs.Option.{option_map}
 use Rattle.std.specs.Prelude.{slice_index, if◌then◌else◌}
@@ -137,14 +139,8 @@ module _ {E N : Type 0} (name : E → N) (lt same : N → N → Bool) (o : IsOrd
 
   -- the names past one, of those that pass
   pub above_where : (passes : E → Bool) (after : Option N) (es : List E) → above lt after (names_of passes es) ≡ names_of (λ e. passes e && is_above lt after (name e)) es
-  above_where passes None [] = refl
+  above_where passes None es = ap (map name) (filter_agree passes (λ e. passes e && true) (λ e. sym (and-true (passes e))) es)
   above_where passes (Some a) [] = refl
-  above_where passes None (e ∷ es) = by (passes e) (above_where passes None es)
-    where
-      by : (is : Bool) → names_of passes es ≡ names_of (λ e. passes e && true) es
-          → map name (if is then e ∷ filter passes es else filter passes es) ≡ map name (if is && true then e ∷ filter (λ e. passes e && true) es else filter (λ e. passes e && true) es)
-      by true rest = ap (λ xs. name e ∷ xs) rest
-      by false rest = rest
   above_where passes (Some a) (e ∷ es) = by (passes e) (lt a (name e)) refl (above_where passes (Some a) es)
     where
       by : (is past : Bool) → lt a (name e) ≡ past → filter (λ x. lt a x) (names_of passes es) ≡ names_of (λ e. passes e && lt a (name e)) es
