@@ -7,6 +7,7 @@ use Rattle.stream_ident.specs.declared.ident.GrainId.{GrainId}
 use Rattle.stream_ident.specs.Name.{grain_lt, same_grain}
 use Rattle.stream_ident.specs.Words.{change_at}
 use Rattle.stream_ident.proofs.NameOrders.{grain_order}
+use Rattle.stream_ident.proofs.WordLemmas.{set-change_at}
 use Rattle.consumer_grain.specs.Activations.{PlainActivation}
 use Rattle.consumer_grain.specs.declared.activation.RunningTurn.{RunningTurn}
 use Rattle.consumer_grain.specs.declared.mailbox.Delivery.{Delivery}
@@ -19,13 +20,6 @@ use Rattle.ranked_index.specs.Ranked.{AreRanked}
 use Rattle.ranked_index.proofs.EntryLemmas.{ranked-set}
 use Rattle.grain_table.proofs.TableLemmas.{distinct-ranked, read_entry}
 use Rattle.ranked_index.proofs.ListedLemmas.{listed-but, listed-more}
-
--- an activation read, changed and written
-written : (grains : PlainGrains) (change : PlainActivation → PlainActivation) (number : ℕ) (e : GrainId × PlainActivation) (a : PlainActivation) → number < length grains → get_or grains number no_grain ≡ e → a ≡ change e.1
-    → set grains number (e.0, a) ≡ change_at change number grains
-written [] change number e a within read is = absurd (omega arith)
-written (x ∷ xs) change zero e a within read is = ap₂ (λ (y : GrainId × PlainActivation) (b : PlainActivation). (y.0, b) ∷ xs) (sym read) (is ∙ ap (λ (y : GrainId × PlainActivation). change y.1) (sym read))
-written (x ∷ xs) change (suc n) e a within read is = ap (λ (rest : PlainGrains). x ∷ rest) (written xs change n e a (omega arith) read is)
 
 -- ---- how many turns run
 
@@ -91,7 +85,9 @@ module _ (grains old : PlainGrains) (number : ℕ) (e : GrainId × PlainActivati
 
   -- and changed
   pub changed : (change : PlainActivation → PlainActivation) (a : PlainActivation) → a ≡ change e.1 → set grains number (e.0, a) ≡ change_at change number old
-  changed change a is = written grains change number e a within read is ∙ ap (change_at change number) same
+  changed change a is =
+      ap₂ (λ (x : GrainId × PlainActivation) (b : PlainActivation). set grains number (x.0, b)) (sym read) (is ∙ ap (λ (x : GrainId × PlainActivation). change x.1) (sym read))
+      ∙ set-change_at change number grains no_grain within ∙ ap (change_at change number) same
 
   named : (d : GrainId × PlainActivation) → e.0 ≡ name_of (get_or grains number d)
   named d = ap name_of (sym read ∙ get_or_default grains number no_grain d within)
