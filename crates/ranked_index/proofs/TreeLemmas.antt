@@ -105,33 +105,19 @@ module _ (key : Key) where
         greater = λ i past before. greater i past (omega (arith, before, ap (doubled climbed.height) twice));
       }
 
-  climbed_odd : (from bound at end : ℕ) (nodes : List Node) → IsTree nodes → (climbed : IsClimbed key from bound at end nodes) → at < end
-      → bound < number_at key nodes at → (above half : ℕ) → above + above ≡ at + 1 → half + half ≡ end → IsClimbed key from bound above half nodes
-  climbed_odd from bound at end nodes tree climbed less greater above half twice halves =
-      let some = climbed.some in
-      climbed_to from bound at end (at + 1) nodes climbed above twice (omega arith) (omega arith) (omega arith) (omega (arith, some)) (greater_past from bound at end nodes tree climbed less greater) half halves
-
-  climbed_even : (from bound at end : ℕ) (nodes : List Node) → (climbed : IsClimbed key from bound at end nodes) → at < end
-      → (above half : ℕ) → above + above ≡ at → half + half ≡ end → IsClimbed key from bound above half nodes
-  climbed_even from bound at end nodes climbed less above half twice halves =
-      let some = climbed.some in
-      climbed_to from bound at end at nodes climbed above twice some (omega arith) (omega arith) (omega (arith, some)) climbed.greater half halves
-
-  -- the end of a level is even, where it isn't the first
-  even_end : (from bound at end : ℕ) (nodes : List Node) → (climbed : IsClimbed key from bound at end nodes) → at < end → end / 2 + end / 2 ≡ end
-  even_end from bound at end nodes climbed less =
-      let some = climbed.some in
-      let halved : IsHalved end = halved_power end climbed.power (omega (arith, some)) in
-      omega (arith, halved.twice)
-
   -- one level up
   pub climbed_step : (from bound at end : ℕ) (nodes : List Node) → IsTree nodes → (climbed : IsClimbed key from bound at end nodes) → at < end
       → (at % 2 ≡ 1 → bound < number_at key nodes at) → IsClimbed key from bound ((at + 1) / 2) (end / 2) nodes
   climbed_step from bound at end nodes tree climbed less greater =
-      let halves = even_end from bound at end nodes climbed less in
+      let some = climbed.some in
+      let halved : IsHalved end = halved_power end climbed.power (omega (arith, some)) in
+      let halves : end / 2 + end / 2 ≡ end = omega (arith, halved.twice) in
       elim (cases_lt 0 (at % 2)) [
-        | inl odd ↦ climbed_odd from bound at end nodes tree climbed less (greater (omega arith)) ((at + 1) / 2) (end / 2) (omega arith) halves
-        | inr even ↦ climbed_even from bound at end nodes climbed less ((at + 1) / 2) (end / 2) (omega arith) halves
+        | inl odd ↦
+            climbed_to from bound at end (at + 1) nodes climbed ((at + 1) / 2) (omega arith) (omega arith) (omega arith) (omega arith) (omega (arith, some))
+            (greater_past from bound at end nodes tree climbed less (greater (omega arith))) (end / 2) halves
+        | inr even ↦
+            climbed_to from bound at end at nodes climbed ((at + 1) / 2) (omega arith) some (omega arith) (omega arith) (omega (arith, some)) climbed.greater (end / 2) halves
       ]
 
   pub climbed_here : (from bound at end : ℕ) (nodes : List Node) → length nodes ≤ from + from → (climbed : IsClimbed key from bound at end nodes) → at < end
