@@ -185,11 +185,6 @@ rank_in-is order ranking = found_at order ranking.inverse.number_within (distinc
 
 -- ---- ranks given anew
 
--- of rows that are others under another name
-pub reranked_along : (order order' old old' new : List ℕ) (from : ℕ) → order ≡ order' → old ≡ old' → IsReranked order old new from (length order) → IsReranked order' old' new from (length order')
-reranked_along order order' old old' new from same same' is =
-    subst (λ (xs : List ℕ). IsReranked xs old' new from (length xs)) same (subst (λ (xs : List ℕ). IsReranked order xs new from (length order)) same' is)
-
 -- ranks that are given anew from one on, where those below it were right
 ranks-given : (order old new : List ℕ) (rank_of : ℕ → ℕ) (from : ℕ) → IsInverse order rank_of → length new ≡ length order → IsReranked order old new from (length order)
     → ((number : ℕ) → number < length order → rank_of number < from → slice_index old number ≡ rank_of number) → AreRanks order new

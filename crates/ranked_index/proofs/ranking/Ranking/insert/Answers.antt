@@ -2,7 +2,7 @@ use Rattle.std.proofs.Common.{◌≡◌, ◌∙◌, ℕ, ◌+◌, ◌≤◌, Lis
 use Rattle.std.proofs.lemmas.List.{take_at}
 use Rattle.std.specs.List.{insert}
 use Rattle.ranked_index.specs.Ranking.{IsRanking}
-use Rattle.ranked_index.proofs.RankLemmas.{ranking_of, ranking-insert, ranks-insert, reranked_along}
+use Rattle.ranked_index.proofs.RankLemmas.{ranking_of, ranking-insert, ranks-insert}
 use Rattle.ranked_index.proofs.ranking.Ranking.insert.Goals as goal
 
 pub rerank-requires-clause-ranking : goal.rerank-requires-clause-ranking
@@ -26,4 +26,4 @@ invariant_of-self-2 c =
     let long : length new ≡ length ranks + 1 = omega (arith, c.rerank.auto.ranks, ap length pushed, length-append ranks (c.args.rank ∷ [])) in
     rw (take_at new (drop (length new) c.push_reserved.new.self.items) c.push_reserved.new.self.len (omega (arith, c.rerank.auto.ranks)), numbers)
     (ranks-insert order ranks c.self.invariant c.args.rank fits new long
-    (reranked_along c.as_slice.result.now (insert order c.args.rank (length order)) c.as_mut_slice.result.now (ranks ++ c.args.rank ∷ []) new c.args.rank (c.as_slice.ensures.value ∙ numbers) pushed c.rerank.ensures))
+    (rw (c.as_slice.ensures.value ∙ numbers, pushed) at c.rerank.ensures))

@@ -3,7 +3,7 @@ use Rattle.std.proofs.lemmas.List.{get_or_default, take_at, length-take-le}
 use Rattle.std.specs.List.{remove}
 use Rattle.std.specs.Prelude.{slice_index, slice_index_or}
 use Rattle.ranked_index.specs.Ranking.{AreRanks}
-use Rattle.ranked_index.proofs.RankLemmas.{ranking_of, ranking-remove, ranks-remove, reranked_along}
+use Rattle.ranked_index.proofs.RankLemmas.{ranking_of, ranking-remove, ranks-remove}
 use Rattle.ranked_index.proofs.ranking.Ranking.pop.Goals as goal
 
 -- the last number stands at its rank
@@ -35,7 +35,7 @@ invariant_of-self c =
     let long : length new ≡ last = omega (arith, c.rerank.auto.ranks, ap length cut, length-take-le last ranks (omega (arith, c.self.invariant.long))) in
     rw (take_at new (drop (length new) c.truncate.new.self.items) c.truncate.new.self.len (omega (arith, c.rerank.auto.ranks, c.as_mut_slice.ensures.len)), c.remove.ensures.items)
     (ranks-remove order ranks new rank last c.self.invariant at.0 at.1 end long
-    (reranked_along c.as_slice.result.now (remove order rank) c.as_mut_slice.result.now (take last ranks) new rank (c.as_slice.ensures.value ∙ c.remove.ensures.items) cut c.rerank.ensures))
+    (rw (c.as_slice.ensures.value ∙ c.remove.ensures.items, cut) at c.rerank.ensures))
 
 pub returns-clause-last : goal.returns-clause-last
 returns-clause-last c =
