@@ -24,9 +24,6 @@ made nodes at n some inner is =
     get_or-set_same nodes at n zero_node (omega arith) ∙ is ∙ ap₂ lesser_node left right
     ∙ sym (ap₂ lesser_node (get_or-set_other nodes at (at + at) n zero_node (omega arith)) (get_or-set_other nodes at (at + at + 1) n zero_node (omega arith)))
 
-still_outside : (x at last : ℕ) → (x < at + 1) ⊎ (last < x) → x ≢ at → (x < at) ⊎ (last < x)
-still_outside x at last outside other = elim outside [ inl before ↦ inl (omega arith) | inr past ↦ inr past ]
-
 -- the next node of the row
 pub settled_step : (first last at : ℕ) (n : Node) (nodes : List Node) → n ≡ lesser_node (node_at nodes (2 * at)) (node_at nodes (2 * at + 1)) → first ≤ at → at ≤ last
     → IsSettled first last at nodes → IsSettled first last (at + 1) (set nodes at n)
@@ -38,7 +35,8 @@ settled_step first last at n nodes is from to settled = record {
             let here : IsLesser (set nodes at n) at = made nodes at n (omega arith) (omega arith) is in
             subst (IsLesser (set nodes at n)) (sym same) here
         | inr other ↦
-            let lesser = settled.lesser x some before (still_outside x at last outside other) parents in elim parents [
+            let still : (x < at) ⊎ (last < x) = elim outside [ inl below ↦ inl (omega arith) | inr past ↦ inr past ] in
+            let lesser = settled.lesser x some before still parents in elim parents [
               | inl below ↦ kept nodes at n x other (omega arith) (omega arith) lesser
               | inr above ↦ kept nodes at n x other (omega arith) (omega arith) lesser
             ]
