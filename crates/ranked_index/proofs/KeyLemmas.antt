@@ -1,5 +1,5 @@
 -- The least key and the first that is at most a bound, from the nodes.
-use Rattle.std.proofs.Common.{◌≡◌, ℕ, zero, suc, ◌+◌, ◌-◌, ◌<◌, ◌≤◌, inl, inr, Bool, true, false, cond, List, length, take, drop, map, min, get_or, Option, Some, None, refl, sym, ap, ◌∙◌, arith}
+use Rattle.std.proofs.Common.{◌≡◌, ℕ, ◌+◌, ◌-◌, ◌<◌, ◌≤◌, inl, inr, Bool, true, false, cond, List, length, take, drop, map, min, get_or, Option, Some, None, refl, sym, ap, ◌∙◌, arith}
 use Rattle.std.proofs.lemmas.Bool.{cases_lt, lt-ltb, le-ltb, le-leb, lt-leb}
 use Rattle.std.proofs.lemmas.List.{get_or-drop, get_or-map, length-drop, length-map}
 use Rattle.std.proofs.lemmas.Option.{same_Some}
@@ -9,7 +9,7 @@ use Rattle.ranked_index.specs.declared.tree.Key.{Key}
 use Rattle.ranked_index.specs.declared.tree.Key.TheVariants.{Resume, Due}
 use Rattle.ranked_index.specs.declared.tree.Node.{Node}
 use Rattle.ranked_index.specs.Tree.{no_key, no_node, zero_node, node_at, key_in, key_of, number_at, number_by, doubled, IsLeastTree, AreGreater, IsFirstAtMost}
-use Rattle.ranked_index.proofs.Doubled.{doubled-twice}
+use Rattle.ranked_index.proofs.Doubled.{doubled-twice, halved_power}
 use Rattle.ranked_index.proofs.TreeLemmas.{node-le, node_met, IsMet}
 use Rattle.ranked_index.proofs.LeafLemmas.{leaf_at-place, length_leaves}
 use Rattle.ranked_index.proofs.LeastKeys.{least-same, least_key-is, IsLeast}
@@ -51,22 +51,19 @@ length-from key nodes first_leaf len from halves room =
     length-drop from (keys_of key nodes first_leaf len)
     ∙ ap (λ (n : ℕ). n - from) (length-map (take len (drop first_leaf nodes)) (key_in key) ∙ length_leaves nodes first_leaf len halves room)
 
-height_of : (exponent first_leaf : ℕ) → doubled exponent 1 ≡ first_leaf + first_leaf → 0 < first_leaf → (height : ℕ) × (doubled height 1 ≡ first_leaf)
-height_of zero first_leaf twice some = absurd (omega arith)
-height_of (suc exponent) first_leaf twice some = (exponent, omega (arith, twice, doubled-twice exponent 1))
-
 -- the root is the least of the leaves
 pub least_key-root : (key : Key) (nodes : List Node) (first_leaf len : ℕ) → IsLeastTree nodes first_leaf len → 0 < first_leaf
     → key_of (number_at key nodes 1) ≡ least_key (keys_of key nodes first_leaf len)
 least_key-root key nodes first_leaf len is some =
-    let power = is.power some in
     let halves = is.halves in
-    let height = height_of power.exponent first_leaf (power.is ∙ halves) some in
-    let end : doubled height.0 (1 + 1) ≡ length nodes = doubled-twice height.0 1 ∙ omega (arith, height.1) in
+    let half = halved_power (length nodes) (is.power some) (omega (arith, halves)) in
+    let height = half.power.exponent in
+    let start : doubled height 1 ≡ first_leaf = omega (arith, half.twice, half.power.is) in
+    let end : doubled height (1 + 1) ≡ length nodes = doubled-twice height 1 ∙ omega (arith, start) in
     let root = number_at key nodes 1 in
     let keys = keys_of key nodes first_leaf len in
     let long : length keys ≡ len = omega (arith, length-from key nodes first_leaf len 0 halves is.room) in
-    let met : IsMet key (doubled height.0 1) (doubled height.0 (1 + 1)) root nodes = node_met key nodes is.tree height.0 1 (omega arith) (omega arith) in
+    let met : IsMet key (doubled height 1) (doubled height (1 + 1)) root nodes = node_met key nodes is.tree height 1 (omega arith) (omega arith) in
     let least : IsLeast (key_of root) keys = record {
       met = λ k same.
           let own = key_of-met root k same in
@@ -74,7 +71,7 @@ least_key-root key nodes first_leaf len is some =
             | inl used ↦ used
             | inr unused ↦ absurd (omega (arith, own.1, met.is, ap (number_by key) (is.unused met.leaf unused (omega (arith, met.before))), no-number key))
           ] in
-          let after : first_leaf ≤ met.leaf = omega (arith, met.after, height.1) in
+          let after : first_leaf ≤ met.leaf = omega (arith, met.after, start) in
           let there : first_leaf + 0 + (met.leaf - first_leaf) ≡ met.leaf = omega arith in
           record {
             at = met.leaf - first_leaf;
@@ -84,7 +81,7 @@ least_key-root key nodes first_leaf len is some =
       lower = λ i k within there.
           let inside : 0 + i < len = omega (arith, long) in
           let own = key_of-met (number_at key nodes (first_leaf + 0 + i)) k (sym (key-from key nodes first_leaf len 0 i halves is.room inside) ∙ there) in
-          let le = node-le key nodes is.tree height.0 1 (omega arith) (omega arith) (first_leaf + 0 + i) (omega (arith, height.1)) (omega (arith, is.room)) in
+          let le = node-le key nodes is.tree height 1 (omega arith) (omega arith) (first_leaf + 0 + i) (omega (arith, start)) (omega (arith, is.room)) in
           record { low = root; is = key_of-some root (omega (arith, own.1, le)); le = omega (arith, own.0, le) };
     } in
     least-same (key_of root) (least_key keys) keys least (least_key-is keys)
