@@ -41,23 +41,25 @@ count-written [] number x within = absurd (omega arith)
 count-written (e ∷ es) zero x within = omega (arith, count-first e es, count-first x es)
 count-written (e ∷ es) (suc n) x within = omega (arith, count-first e es, count-first e (set es n x), count-written es n x (omega arith))
 
+-- each counts at most once
+one-most : (b : Bool) → (if b then 1 else 0) ≤ 1
+one-most true = omega arith
+one-most false = omega arith
+
 count-most : (grains : PlainGrains) → running_in grains ≤ length grains
 count-most [] = omega arith
-count-most (e ∷ es) = by (is_running e.1) (count-first e es) (count-most es)
-  where
-    by : (b : Bool) → running_in (e ∷ es) ≡ running_in es + (if b then 1 else 0) → running_in es ≤ length es → running_in (e ∷ es) ≤ length (e ∷ es)
-    by true is rest = omega (arith, is, rest)
-    by false is rest = omega (arith, is, rest)
+count-most (e ∷ es) = omega (arith, count-first e es, one-most (is_running e.1), count-most es)
 
-count-some : (grains : PlainGrains) (number : ℕ) → number < length grains → is_running (activation_at grains number) ≡ true → 0 < running_in grains
-count-some [] number within is = absurd (omega arith)
-count-some (e ∷ es) zero within is =
-    let one : ◌≡◌ {A = ℕ} (if is_running e.1 then 1 else 0) 1 = ap {B = ℕ} (λ (b : Bool). if b then 1 else 0) is in
-    omega (arith, count-first e es, one)
-count-some (e ∷ es) (suc n) within is = omega (arith, count-first e es, count-some es n (omega arith) is)
+count-one : (grains : PlainGrains) (number : ℕ) → number < length grains → (if is_running (activation_at grains number) then 1 else 0) ≤ running_in grains
+count-one [] number within = absurd (omega arith)
+count-one (e ∷ es) zero within = omega (arith, count-first e es)
+count-one (e ∷ es) (suc n) within = omega (arith, count-first e es, count-one es n (omega arith))
 
 count-none : (grains : PlainGrains) (number : ℕ) → running_in grains ≡ 0 → number < length grains → is_running (activation_at grains number) ≡ false
-count-none grains number none within = false_from_ne_true (is_running (activation_at grains number)) (λ is. absurd (omega (arith, none, count-some grains number within is)))
+count-none grains number none within =
+    false_from_ne_true (is_running (activation_at grains number)) (λ is.
+    let one : ◌≡◌ {A = ℕ} (if is_running (activation_at grains number) then 1 else 0) 1 = ap {B = ℕ} (λ (b : Bool). if b then 1 else 0) is in
+    absurd (omega (arith, none, one, count-one grains number within)))
 
 count-more : (grains : PlainGrains) (e : GrainId × PlainActivation) → running_in (grains ++ e ∷ []) ≡ running_in grains + (if is_running e.1 then 1 else 0)
 count-more [] e = count-first e []
@@ -131,25 +133,12 @@ added-but grains ready room running more e is distinct fits few =
 
 module _ (number : ℕ) (before : Standing) (grains : PlainGrains) (ready : List ℕ) (room running : ℕ) (but : IsKeptBut number before grains ready room running) where
   pub some-ran : IsTrue before.runs → 0 < running
-  some-ran ran = by (is_running (activation_at grains number)) refl
-    where
-      one : ◌≡◌ {A = ℕ} (if before.runs then 1 else 0) 1
-      one = ap {B = ℕ} (λ (b : Bool). if b then 1 else 0) ran
-
-      by : (b : Bool) → is_running (activation_at grains number) ≡ b → 0 < running
-      by true is =
-          let now : ◌≡◌ {A = ℕ} (if is_running (activation_at grains number) then 1 else 0) 1 = ap {B = ℕ} (λ (b : Bool). if b then 1 else 0) is in
-          omega (arith, but.counted, one, now, count-some grains number but.within is)
-      by false is =
-          let now : ◌≡◌ {A = ℕ} (if is_running (activation_at grains number) then 1 else 0) 0 = ap {B = ℕ} (λ (b : Bool). if b then 1 else 0) is in
-          omega (arith, but.counted, one, now)
+  some-ran ran =
+      let one : ◌≡◌ {A = ℕ} (if before.runs then 1 else 0) 1 = ap {B = ℕ} (λ (b : Bool). if b then 1 else 0) ran in
+      omega (arith, but.counted, one, count-one grains number but.within)
 
   pub few-run : running + 1 < 2 ^ 64
-  few-run = by before.runs but.counted
-    where
-      by : (b : Bool) → running + (if is_running (activation_at grains number) then 1 else 0) ≡ running_in grains + (if b then 1 else 0) → running + 1 < 2 ^ 64
-      by true is = omega (arith, is, count-most grains, but.few)
-      by false is = omega (arith, is, count-most grains, but.few)
+  few-run = omega (arith, but.counted, one-most before.runs, count-most grains, but.few)
 
 -- ---- none ready, and none running
 
