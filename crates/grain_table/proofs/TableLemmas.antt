@@ -50,10 +50,7 @@ number_of-read grains grain number distinct within is =
     (λ j less. false_from_ne_true (same_grain grain (grain_at grains j)) (λ also.
     let equal = distinct number j no_grain within (omega arith) (ap (λ (g : GrainId). same_grain g (grain_at grains j)) (sym (same_grain-equal grain (grain_at grains number) is)) ∙ also) in
     absurd (omega (arith, equal))))
-    ∙ ap {B = Option ℕ} Some (zero_add number))
-  where
-    zero_add : (n : ℕ) → 0 + n ≡ n
-    zero_add n = omega arith
+    ∙ ap {B = Option ℕ} Some (let same : 0 + number ≡ number = omega arith in same))
 
 -- and the other way round
 pub number_of-found : (grains : PlainGrains) (grain : GrainId) (number : ℕ) → number_of grains grain ≡ Some number → (number < length grains) × (same_grain grain (grain_at grains number) ≡ true)
