@@ -1,4 +1,5 @@
 use Rattle.std.proofs.Common.{◌≡◌, ap, refl, ℕ, List, [], ◌∷◌, length, vec_capacity, arith}
+use Rattle.ranked_index.proofs.RankLemmas.{ranking-from}
 use Rattle.grain_table.specs.Grains.{PlainGrains}
 use Rattle.grain_table.specs.Table.{IsTable}
 use Rattle.grain_table.proofs.table.GrainTable.new.Goals as goal
@@ -8,15 +9,7 @@ no-grains (grain ∷ grains) order ready room none no_order no_ready = absurd (o
 no-grains [] order ready room none no_order no_ready = record {
   ranked = record {
     long = no_order;
-    ranking = record {
-      rank_of = λ number. number;
-      inverse = record {
-        number_within = λ rank within. absurd (omega (arith, no_order, within));
-        back = λ rank within. absurd (omega (arith, no_order, within));
-        rank_within = λ number within. absurd (omega (arith, no_order, within));
-        forth = λ number within. absurd (omega (arith, no_order, within));
-      };
-    };
+    ranking = ranking-from order (λ rank within. absurd (omega (arith, no_order, within))) (λ i j less within. absurd (omega (arith, no_order, within)));
     rises = λ d low high less within. absurd (omega (arith, no_order, within));
   };
   kept = record {
