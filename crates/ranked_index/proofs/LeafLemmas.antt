@@ -6,7 +6,7 @@ use Rattle.std.specs.List.{insert}
 use Rattle.std.proofs.Math.Seq.{take-set-lt}
 use Rattle.std.specs.Prelude.{get_or}
 use Rattle.ranked_index.specs.declared.tree.Node.{Node}
-use Rattle.ranked_index.specs.Tree.{no_node, zero_node, node_at, IsTree, IsLeastTree, IsShifted, IsPowerOfTwo}
+use Rattle.ranked_index.specs.Tree.{no_node, zero_node, node_at, IsTree, IsLeastTree, IsShifted}
 use Rattle.ranked_index.proofs.RankLemmas.{insert-before, insert-here, insert-past, placed, Before, Here, Past}
 
 -- what is the same past a place
@@ -63,15 +63,3 @@ leaves-insert old new first_leaf len place n halves same room within shifted =
           here ∙ ap (node_at new) one ∙ shifted.moved (first_leaf + j) (omega arith) (omega arith)
           ∙ sym (leaf_at-place old first_leaf len j (omega arith)) ∙ sym (insert-past leaves place n zero_node inside i j next high)
     ])
-
--- the leaves of a new tree, between such that are none
-pub least_tree-grown : (leaves items new : List Node) (first_leaf : ℕ) → length leaves < first_leaf → length items ≡ first_leaf + first_leaf → IsPowerOfTwo (first_leaf + first_leaf)
-    → IsTree new → length new ≡ length items → ((i : ℕ) → first_leaf + length leaves ≤ i → i < length items → node_at items i ≡ no_node)
-    → ((i : ℕ) → first_leaf + length leaves ≤ i → node_at new i ≡ node_at items i) → IsLeastTree new first_leaf (length leaves)
-least_tree-grown leaves items new first_leaf room long power tree same unused past = record {
-  halves = same ∙ long;
-  power = λ some. record { exponent = power.exponent; is = power.is ∙ sym (same ∙ long) };
-  room = omega arith;
-  tree = tree;
-  unused = λ leaf from to. past leaf from ∙ unused leaf from (omega arith);
-}

@@ -1,6 +1,6 @@
-use Rattle.std.proofs.Common.{◌≡◌, ◌+◌, ◌/◌, ◌∙◌, refl, length, drop, ap, arith}
+use Rattle.std.proofs.Common.{◌≡◌, ◌+◌, ◌/◌, ◌∙◌, refl, length, drop, sym, ap, arith}
 use Rattle.std.proofs.lemmas.List.{take_at}
-use Rattle.ranked_index.proofs.LeafLemmas.{same_past, least_tree-grown}
+use Rattle.ranked_index.proofs.LeafLemmas.{same_past}
 use Rattle.ranked_index.specs.Tree.{zero_node}
 use Rattle.ranked_index.proofs.tree.grown.Goals as goal
 
@@ -12,6 +12,12 @@ returns-clause-tree c =
     let long : length new ≡ c.resize-2.new.self.len = omega (arith, c.settle.auto.nodes, c.as_mut_slice.ensures.len) in
     let twice : length items ≡ c.args.first_leaf + c.args.first_leaf = omega (arith, long, whole, c.in_ok-resize-2.ensures.len) in
     rw (take_at new (drop (length new) items) c.resize-2.new.self.len long)
-    (least_tree-grown c.args.leaves.now items new c.args.first_leaf c.requires.room twice c.requires.power c.settle.ensures.tree whole
-    (λ i from to. c.in_ok-resize-2.ensures.by_index.1 i zero_node refl (omega (arith, c.in_ok-extend_from_slice.ensures.len, c.in_ok-resize.ensures.len)) (omega arith))
-    (λ i from. same_past ((c.args.first_leaf + length c.args.leaves.now) / 2) items new (λ place less. c.settle.ensures.past place less ∙ ap (drop place) c.as_mut_slice.ensures.value) i (omega arith)))
+    (record {
+      halves = whole ∙ twice;
+      power = λ some. record { exponent = c.requires.power.exponent; is = c.requires.power.is ∙ sym (whole ∙ twice) };
+      room = omega (arith, c.requires.room);
+      tree = c.settle.ensures.tree;
+      unused = λ i from to.
+          same_past ((c.args.first_leaf + length c.args.leaves.now) / 2) items new (λ place less. c.settle.ensures.past place less ∙ ap (drop place) c.as_mut_slice.ensures.value) i (omega arith)
+          ∙ c.in_ok-resize-2.ensures.by_index.1 i zero_node refl (omega (arith, c.in_ok-extend_from_slice.ensures.len, c.in_ok-resize.ensures.len)) (omega (arith, to, whole));
+    })
