@@ -1,7 +1,7 @@
-use Rattle.std.proofs.Common.{◌≡◌, ◌+◌, ◌-◌, List, ℕ, length, map, min, ap, subst, ◌∙◌, sym, arith}
+use Rattle.std.proofs.Common.{◌≡◌, ◌+◌, ◌-◌, List, length, map, min, ap, ◌∙◌, sym, arith}
 use Rattle.ranked_index.specs.Keys.{first_at_most}
 use Rattle.ranked_index.specs.declared.tree.Node.{Node}
-use Rattle.ranked_index.specs.Tree.{key_in, no_key, number_at, AreGreater, IsFirstAtMost}
+use Rattle.ranked_index.specs.Tree.{key_in, no_key, number_at, AreGreater}
 use Rattle.ranked_index.proofs.KeyLemmas.{first_at_most-none, first_at_most-some}
 use Rattle.ranked_index.proofs.tree.LeastTree.first_at_most.Goals as goal
 
@@ -20,10 +20,7 @@ pub returns-clause-place : goal.returns-clause-place
 returns-clause-place c =
     let t = c.self.inside in
     let leaf = c.in_ok-leaf.leaf in
-    let from = t.first_leaf + c.args.from in
     let most : c.min-most.result ≡ min c.args.bound (no_key - 1) = omega arith in
-    let first : IsFirstAtMost c.args.key from (min c.args.bound (no_key - 1)) leaf t.nodes.items =
-    subst (λ (n : ℕ). IsFirstAtMost c.args.key from n leaf t.nodes.items) most
-    (subst (IsFirstAtMost c.args.key from c.min-most.result leaf) c.as_slice-nodes.ensures.value c.in_ok-leaf.ensures) in
+    let first = rw (most, c.as_slice-nodes.ensures.value) at c.in_ok-leaf.ensures in
     sym (first_at_most-some c.args.key t.nodes.items t.first_leaf t.len c.args.from c.args.bound leaf c.self.invariant first)
     ∙ ap (λ (row : List Node). first_at_most c.args.from c.args.bound (map (key_in c.args.key) row)) c.self.view_is
