@@ -1,5 +1,5 @@
 -- The names with those that the rules make of events: their front, and how many they are.
-use Rattle.pubsub_registry.proofs.Prelude.{◌≡◌, ◌∙◌, ℕ, zero, suc, ◌+◌, ◌*◌, ◌<◌, ◌≤◌, not, Bool, true, false, List, [], ◌∷◌, ◌++◌, length, take, get_or, fold, if◌then◌else◌, refl, ap, arith, length-append, le-ltb, fold-append, sum_by-cons, flat_map, added-more, has, length-fold, batch_token, added, same_name, token_lt, Event, SubName, Rule}
+use Rattle.pubsub_registry.proofs.Prelude.{◌≡◌, ◌∙◌, ℕ, zero, suc, ◌+◌, ◌*◌, ◌<◌, ◌≤◌, not, Bool, true, false, List, [], ◌∷◌, ◌++◌, length, take, get_or, get_or_default, fold, if◌then◌else◌, refl, ap, arith, length-append, le-ltb, fold-append, sum_by-cons, flat_map, added-more, has, length-fold, batch_token, added, same_name, token_lt, Event, SubName, Rule}
 use Rattle.std.proofs.lemmas.List.Filters.{length-filter_both}
 use Rattle.stream_ident.specs.declared.limits.TheConstants.{MOST_RULES}
 use Rattle.pubsub_registry.specs.Implying.{all_implied, implied, imply, made, names_with, rule_count}
@@ -42,15 +42,15 @@ length-front make names (x ∷ xs) (suc n) =
     )
 
 -- where an item makes a name that is new, all make one
-pub more-at : {X : Type 0} (make : X → Names) (names so_far : Names) (xs : List X) (i : ℕ) (x : X) → i < length xs → x ≡ get_or xs i x → so_far ≡ fold added names (flat_map make (take i xs))
+pub more-at : {X : Type 0} (make : X → Names) (names so_far : Names) (xs : List X) (i : ℕ) (d x : X) → i < length xs → x ≡ get_or xs i d → so_far ≡ fold added names (flat_map make (take i xs))
     → length so_far < length (fold added so_far (make x)) → length names < length (fold added names (flat_map make xs))
-more-at make names so_far xs i x within is are more =
+more-at make names so_far xs i d x within is are more =
     omega (
       arith,
       length-fold names (flat_map make (take i xs)),
       ap length are,
       more,
-      ap length (added-more make names xs i x within is),
+      ap length (added-more make names xs i x within (is ∙ get_or_default xs i d x within)),
       ap (λ (all : Names). length (fold added all (make x))) are,
       length-front make names xs (i + 1),
     )

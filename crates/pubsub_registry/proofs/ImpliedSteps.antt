@@ -1,5 +1,5 @@
 -- What one more rule, or one more event, adds to the names.
-use Rattle.pubsub_registry.proofs.Prelude.{◌≡◌, ◌∙◌, ℕ, ◌+◌, ◌<◌, ◌&&◌, ◌||◌, not, Bool, true, false, List, [], ◌∷◌, ◌++◌, length, take, get_or, fold, if◌then◌else◌, refl, sym, ap, arith, length-append, flat_map, list_any, added-last, added-more, has, batch_token, added, same_stream, token_lt, Event, Implicit, Rule}
+use Rattle.pubsub_registry.proofs.Prelude.{◌≡◌, ◌∙◌, ℕ, ◌+◌, ◌<◌, ◌&&◌, ◌||◌, not, Bool, true, false, List, [], ◌∷◌, ◌++◌, length, take, get_or, get_or_default, fold, if◌then◌else◌, sym, ap, arith, length-append, flat_map, list_any, added-last, added-more, has, batch_token, added, same_stream, no_event, token_lt, Event, Implicit, Rule}
 use Rattle.pubsub_registry.specs.Implying.{implied, made, makes_any, names_with}
 use Rattle.pubsub_registry.proofs.Entries.{Names}
 use Rattle.pubsub_registry.proofs.ImpliedNames.{entry, has-so_far, implied-on}
@@ -11,11 +11,11 @@ pub event-last : (rules : List Rule) (names : Names) (events : List Event) (even
 event-last rules names events event =
     added-last (λ event. flat_map (implied event) rules) names events event ∙ ap (fold added (names_with rules names events)) (implied-on event rules)
 
-pub event-more : (rules here : List Rule) (names so_far : Names) (events : List Event) (i : ℕ) (event : Event) → i < length events → event ≡ get_or events i event
+pub event-more : (rules here : List Rule) (names so_far : Names) (events : List Event) (i : ℕ) (event : Event) → i < length events → event ≡ get_or events i no_event
     → so_far ≡ names_with rules names (take i events) → here ≡ on event.stream.namespace rules → fold added so_far (flat_map (made event) here) ≡ names_with rules names (take (i + 1) events)
 event-more rules here names so_far events i event within is are theirs =
     (λ j. fold added (are j) (flat_map (made event) (theirs j))) ∙ ap (fold added (names_with rules names (take i events))) (sym (implied-on event rules))
-    ∙ sym (added-more (λ event. flat_map (implied event) rules) names events i event within is)
+    ∙ sym (added-more (λ event. flat_map (implied event) rules) names events i event within (is ∙ get_or_default events i no_event event within))
 
 -- ---- how many
 
@@ -44,7 +44,7 @@ repeats rules before earlier event kind =
 -- so at a step of the walk through the rules on the event's namespace, where it isn't there at first and is no repeat
 pub step-counts : (all : List Rule) (names : Names) (earlier : List Event) (event : Event) (rules : List Rule) (i : ℕ) (rule : Rule) (new : Bool)
     → rules ≡ on event.stream.namespace all → i < length rules → rule ≡ get_or rules i rule
-    → new ≡ (not (token_lt event.token (batch_token rule.from)) && not (has (Implicit rule.kind event.stream) names)) && not (repeats rules (take i rules) earlier event rule.kind)
+    → new ≡ not (token_lt event.token (batch_token rule.from)) && not (has (Implicit rule.kind event.stream) names || repeats rules (take i rules) earlier event rule.kind)
     → length (fold added (names_with all names earlier) (flat_map (made event) (take (i + 1) rules)))
     ≡ length (fold added (names_with all names earlier) (flat_map (made event) (take i rules))) + one_if new
 step-counts all names earlier event rules i rule new are_on within is is_new =
@@ -54,11 +54,5 @@ step-counts all names earlier event rules i rule new are_on within is is_new =
     ap length (added-more (made event) (names_with all names earlier) rules i rule within is) ∙ rule-adds so_far event rule
     ∙ ap (λ new. length so_far + one_if new) (
     ap (λ there. holds && not there) (has-so_far names all (take i rules) earlier event rule.kind)
-    ∙ by holds there (repeats (on event.stream.namespace all) (take i rules) earlier event rule.kind)
-    ∙ ap (λ rules'. (holds && not there) && not (repeats rules' (take i rules) earlier event rule.kind)) (sym are_on) ∙ sym is_new
+    ∙ ap (λ rules'. holds && not (there || repeats rules' (take i rules) earlier event rule.kind)) (sym are_on) ∙ sym is_new
     )
-  where
-    by : (holds there again : Bool) → holds && not (there || again) ≡ (holds && not there) && not again
-    by true true again = refl
-    by true false again = refl
-    by false there again = refl

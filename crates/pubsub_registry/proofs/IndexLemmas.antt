@@ -114,12 +114,11 @@ pub indexed-same : (names : Names) (old new : StreamId → List ℕ) → IsIndex
 indexed-same names old new indexed same stream = subst (AreNumbersOf names stream) (sym (same stream)) (indexed stream)
 
 -- closing changes no row
-pub indexed-closed : (names entries : Names) (s : SubName) (old new : StreamId → List ℕ) → entries ≡ changed_value same_sub s closed_registration names → IsIndexed names old
-    → ((other : StreamId) → new other ≡ old other) → IsIndexed entries new
-indexed-closed names entries s old new is indexed same stream =
+pub indexed-closed : (names entries : Names) (s : SubName) (rows : StreamId → List ℕ) → entries ≡ changed_value same_sub s closed_registration names → IsIndexed names rows → IsIndexed entries rows
+indexed-closed names entries s rows is indexed stream =
     let subs = ap keys_of is ∙ map-closed (λ (entry : SubName × Registration). entry.0) (λ _. refl) names s in
     let streams = ap (map stream_in) is ∙ map-closed stream_in (λ _. refl) names s in
-    subst (λ lists. IsRowIn lists stream (new stream)) (λ i. (sym subs i, sym streams i)) (indexed-same names old new indexed same stream)
+    subst (λ lists. IsRowIn lists stream (rows stream)) (λ i. (sym subs i, sym streams i)) (indexed stream)
 
 module _ (names : Names) (old new : StreamId → List ℕ) (s : SubName) (registration : Registration) (number : ℕ) (last : number ≡ length names) where
   abbrev subs : List SubName

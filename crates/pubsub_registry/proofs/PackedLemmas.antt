@@ -1,5 +1,5 @@
 -- What is kept of subscriptions gives their names and registrations: those that were there, one more, one closed, and a front.
-use Rattle.pubsub_registry.proofs.Prelude.{◌≡◌, ◌∙◌, ℕ, zero, suc, ◌<◌, ◌≤◌, ◌^◌, Bool, true, false, ◌==◌, List, [], ◌∷◌, ◌++◌, length, take, get_or, map, Option, Some, None, if◌then◌else◌, insert, refl, sym, ap, subst, arith, true≢false, and_from, and_parts, cases_order, eqb-true, eq-eqb, false_from_ne_true, ltb-false, append-nil, get_or_append_left, length-map, map-append, fails_before_first, get_or_from_slice_get, slice_get-get_or, slice_get-map, slice_get_within, AllByRecursion, position_or_len, keys_of, lookup, values_of, option_map, ◌⊎◌, slice_get, position, nat_lt, Result, Ok, Err, IfNone, OnErr, OnOk, same_grain-refl, same_stream-refl, same_sub-equal, same_sub-refl, same_grain, same_stream, same_sub, change_at, first_at, StreamId, SubName, inl, inr}
+use Rattle.pubsub_registry.proofs.Prelude.{◌≡◌, ◌∙◌, ℕ, zero, suc, ◌<◌, ◌≤◌, ◌^◌, Bool, true, false, ◌==◌, List, [], ◌∷◌, ◌++◌, length, get_or, map, Option, Some, None, if◌then◌else◌, insert, refl, sym, ap, subst, arith, true≢false, and_from, and_parts, cases_order, eqb-true, eq-eqb, false_from_ne_true, ltb-false, append-nil, get_or_append_left, length-map, map-append, fails_before_first, get_or_from_slice_get, slice_get-get_or, slice_get-map, slice_get_within, AllByRecursion, position_or_len, keys_of, lookup, values_of, option_map, ◌⊎◌, ⊎_elim, is_some, none_from_is_some, slice_get, position, nat_lt, Result, Ok, Err, IfNone, OnErr, OnOk, same_grain-refl, same_stream-refl, same_sub-equal, same_sub-refl, same_grain, same_stream, same_sub, change_at, changed_value, first_at, StreamId, SubName}
 use Rattle.std.specs.List.{IsDistinct}
 use Rattle.std.specs.declared.vec.Vec.{Vec}
 use Rattle.std.proofs.lemmas.List.{length-append}
@@ -9,7 +9,10 @@ use Rattle.std.proofs.lemmas.List.Quantifiers.{position-Some}
 use Rattle.indexmap.specs.IndexMap.{IndexMap, set_value_at}
 use Rattle.stream_ident.specs.declared.ident.GrainId.{GrainId}
 use Rattle.stream_ident.specs.declared.ident.SubName.TheVariants as name
+use Rattle.indexmap.proofs.MapLemmas.{some_index}
 use Rattle.stream_ident.proofs.EachOf.{All-push}
+use Rattle.stream_ident.proofs.FirstLemmas.{position-key}
+use Rattle.stream_ident.proofs.WordLemmas.{cond_none}
 use Rattle.pubsub_registry.specs.Ascending.{IsPlaceOf}
 use Rattle.pubsub_registry.specs.Index.{names_at, AreUnique, IsIndexed}
 use Rattle.pubsub_registry.specs.Packed.{entries_by, entry_by, grain_at, ids_in, key_of, name_by, registration_by, same_key, stream_at, Ids, IsEntryWithin, IsGrown, IsKeyWithin, IsNameOf, IsPacked, IsRowWithin}
@@ -20,8 +23,8 @@ use Rattle.pubsub_registry.specs.declared.packed.Key.{Key}
 use Rattle.pubsub_registry.specs.declared.packed.Key.TheVariants.{Explicit, Implicit}
 use Rattle.pubsub_registry.specs.declared.packed.Row.{Row}
 use Rattle.pubsub_registry.specs.declared.registration.Registration.{Registration}
-use Rattle.pubsub_registry.proofs.Entries.{Names}
-use Rattle.pubsub_registry.proofs.IndexLemmas.{indexed-push, indexed-same}
+use Rattle.pubsub_registry.proofs.Entries.{Names, place_in, placed-valued, stands-placed}
+use Rattle.pubsub_registry.proofs.IndexLemmas.{indexed-closed, indexed-push, indexed-same}
 
 abbrev Rows : Type 0
 Rows = List (Key × Row)
@@ -38,29 +41,21 @@ key-found same equal keys key n found =
 
 module _ {K : Type 0} (same : K → K → Bool) (reflexive : (a : K) → same a a ≡ true) where
   pub key-missing : (keys : List K) (key : K) → position (same key) keys ≡ None → (n : ℕ) → slice_get keys n ≡ Some key → ⊥
-  key-missing keys key none n at = by (nat_lt (position_or_len (same key) keys) (length keys)) refl none
-    where
-      by : (b : Bool) → nat_lt (position_or_len (same key) keys) (length keys) ≡ b → (if b then Some (position_or_len (same key) keys) else None) ≡ None → ⊥
-      by true is none = absurd (cc)
-      by false is none =
-          let whole = ltb-false (position_or_len (same key) keys) (length keys) is in
-          let within = slice_get_within keys n key at in
-          let other = fails_before_first (same key) keys n key (omega (arith, whole, within)) in
-          true≢false (sym (reflexive key) ∙ ap (same key) (sym (get_or_from_slice_get keys n key key at)) ∙ other)
+  key-missing keys key none n at =
+      let whole = ltb-false (position_or_len (same key) keys) (length keys) (cond_none (nat_lt (position_or_len (same key) keys) (length keys)) (position_or_len (same key) keys) None none).0 in
+      let within = slice_get_within keys n key at in
+      let other = fails_before_first (same key) keys n key (omega (arith, whole, within)) in
+      true≢false (sym (reflexive key) ∙ ap (same key) (sym (get_or_from_slice_get keys n key key at)) ∙ other)
 
   -- no key has two numbers
   pub numbered-once : (keys : List K) → IsDistinct same keys → (m n : ℕ) (key : K) → slice_get keys m ≡ Some key → slice_get keys n ≡ Some key → m ≡ n
-  numbered-once keys distinct m n key at-m at-n = by (cases_order m n)
+  numbered-once keys distinct m n key at-m at-n =
+      ⊎_elim (λ (is : m ≡ n). is) (λ (other : (m < n) ⊎ (n < m)). absurd (⊎_elim (apart m n at-m at-n) (apart n m at-n at-m) other)) (cases_order m n)
     where
       apart : (i j : ℕ) → slice_get keys i ≡ Some key → slice_get keys j ≡ Some key → i < j → ⊥
       apart i j at-i at-j less =
           true≢false (sym (reflexive key) ∙ (λ k. same (sym (get_or_from_slice_get keys i key key at-i) k) (sym (get_or_from_slice_get keys j key key at-j) k))
           ∙ apart_from_distinct same keys i j key distinct less (slice_get_within keys j key at-j))
-
-      by : (m ≡ n) ⊎ ((m < n) ⊎ (n < m)) → m ≡ n
-      by (inl is) = is
-      by (inr (inl less)) = absurd (apart m n at-m at-n less)
-      by (inr (inr more)) = absurd (apart n m at-n at-m more)
 
 -- ---- some keys more
 
@@ -252,17 +247,11 @@ module _ (ids : Ids) where
       )
 
   -- a name whose stream or grain isn't there has no key
-  pub no-stream : (s : SubName) (kind : List ℕ) (stream : StreamId) → s ≡ name.Implicit kind stream → position (same_stream stream) ids.streams ≡ None
-      → (key : Key) → IsKeyWithin ids key → name_by ids key ≡ s → ⊥
-  no-stream s kind stream is none (Explicit m) within same = true≢false (ap is_explicit (same ∙ is))
-  no-stream s kind stream is none (Implicit g n) within same =
-      key-missing same_stream same_stream-refl ids.streams stream none n (stream-read n stream within.1 (ap stream_in (same ∙ is)))
-
-  pub no-grain : (s : SubName) (kind : List ℕ) (stream : StreamId) → s ≡ name.Implicit kind stream → position (same_grain (record { kind = kind; key = stream.key })) ids.grains ≡ None
-      → (key : Key) → IsKeyWithin ids key → name_by ids key ≡ s → ⊥
-  no-grain s kind stream is none (Explicit m) within same = true≢false (ap is_explicit (same ∙ is))
-  no-grain s kind stream is none (Implicit g n) within same =
-      key-missing same_grain same_grain-refl ids.grains (record { kind = kind; key = stream.key }) none g (grain-named g n kind stream within (same ∙ is))
+  pub no-key : (s : SubName) (kind : List ℕ) (stream : StreamId) → s ≡ name.Implicit kind stream
+      → ((g n : ℕ) → slice_get ids.grains g ≡ Some (record { kind = kind; key = stream.key }) → slice_get ids.streams n ≡ Some stream → ⊥) → (key : Key) → IsKeyWithin ids key → name_by ids key ≡ s → ⊥
+  no-key s kind stream is none (Explicit m) within same = true≢false (ap is_explicit (same ∙ is))
+  no-key s kind stream is none (Implicit g n) within same =
+      none g n (grain-named g n kind stream within (same ∙ is)) (stream-read n stream within.1 (ap stream_in (same ∙ is)))
 
   -- ---- the place of a name
 
@@ -273,20 +262,6 @@ module _ (ids : Ids) where
       let here : same_sub s (name_by ids entry.0) ≡ false =
       false_from_ne_true (same_sub s (name_by ids entry.0)) (λ same. none entry.0 within.0.0 (sym (same_sub-equal s (name_by ids entry.0) same))) in
       rw here (nowhere-by s none (suc n) rows within.1)
-
-  -- a name that isn't there has no key among the rows
-  pub absent-key : (s : SubName) (key : Key) → name_by ids key ≡ s → (rows : Rows) → lookup (same_sub s) (entries_by ids rows) ≡ None → lookup (same_key key) rows ≡ None
-  absent-key s key is [] none = refl
-  absent-key s key is (entry ∷ rows) none = by (same_sub s (name_by ids entry.0)) (same_key key entry.0) refl refl none (absent-key s key is rows)
-    where
-      by : (named keyed : Bool) → same_sub s (name_by ids entry.0) ≡ named → same_key key entry.0 ≡ keyed
-          → (if named then Some (registration_by ids entry.1) else lookup (same_sub s) (entries_by ids rows)) ≡ None → (lookup (same_sub s) (entries_by ids rows) ≡ None → lookup (same_key key) rows ≡ None)
-          → (if keyed then Some entry.1 else lookup (same_key key) rows) ≡ None
-      by true keyed at same none rest = absurd (cc)
-      by false true at same none rest =
-          let here : same_sub s (name_by ids entry.0) ≡ true = ap (λ (k : Key). same_sub s (name_by ids k)) (sym (same_key-equal key entry.0 same)) ∙ ap (same_sub s) is ∙ same_sub-refl s in
-          absurd (true≢false (sym here ∙ at))
-      by false false at same none rest = rest none
 
   module _ (streams : IsDistinct same_stream ids.streams) (grains : IsDistinct same_grain ids.grains) where
     -- no name has two keys
@@ -319,6 +294,12 @@ module _ (ids : Ids) where
         let here = same-key s key entry.0 in-key is within.0.0 in
         let rest = place-by s key in-key is (suc n) rows within.1 in
         λ i. if sym here i then Some n else rest i
+
+    -- a name that isn't there has no key among the rows
+    pub absent-key : (s : SubName) (key : Key) → IsKeyWithin ids key × (name_by ids key ≡ s) → (rows : Rows) → AllByRecursion (IsEntryWithin ids) rows → lookup (same_sub s) (entries_by ids rows) ≡ None → lookup (same_key key) rows ≡ None
+    absent-key s key named rows within none =
+        none_from_is_some (lookup (same_key key) rows)
+        (sym (some_index (same_key key) rows) ∙ ap is_some (position-key (same_key key) rows ∙ place-by s key named.0 named.1 0 rows within) ∙ placed-valued s (entries_by ids rows) ∙ ap is_some none)
 
     -- no name stands twice
     apart-keys : (key : Key) → IsKeyWithin ids key → (rows : Rows) → AllByRecursion (IsEntryWithin ids) rows
@@ -427,7 +408,7 @@ packed-same by_stream new grains rows left is keeps =
 abbrev pub closed_row : Row → Row
 closed_row row = record row { is_open = false }
 
-pub entries-closed : (ids : Ids) (rows : Rows) (n : ℕ) (row : Row) → Some row ≡ slice_get (values_of rows) n → entries_by ids (set_value_at rows n (closed_row row)) ≡ change_at closed_registration n (entries_by ids rows)
+entries-closed : (ids : Ids) (rows : Rows) (n : ℕ) (row : Row) → Some row ≡ slice_get (values_of rows) n → entries_by ids (set_value_at rows n (closed_row row)) ≡ change_at closed_registration n (entries_by ids rows)
 entries-closed ids [] n row found = refl
 entries-closed ids (entry ∷ rows) zero row found =
     let same : row ≡ entry.1 = cc in
@@ -435,23 +416,20 @@ entries-closed ids (entry ∷ rows) zero row found =
 entries-closed ids (entry ∷ rows) (suc n) row found =
     ap (λ (rest : List (SubName × Registration)). entry_by ids entry ∷ rest) (entries-closed ids rows n row found)
 
-pub within-closed : (ids : Ids) (rows : Rows) (n : ℕ) (row : Row) → Some row ≡ slice_get (values_of rows) n → AllByRecursion (IsEntryWithin ids) rows → AllByRecursion (IsEntryWithin ids) (set_value_at rows n (closed_row row))
+within-closed : (ids : Ids) (rows : Rows) (n : ℕ) (row : Row) → Some row ≡ slice_get (values_of rows) n → AllByRecursion (IsEntryWithin ids) rows → AllByRecursion (IsEntryWithin ids) (set_value_at rows n (closed_row row))
 within-closed ids [] n row found within = tt
 within-closed ids (entry ∷ rows) zero row found within =
     let same : entry.1 ≡ row = cc in
     ((within.0.0, subst (IsRowWithin ids) same within.0.1), within.1)
 within-closed ids (entry ∷ rows) (suc n) row found within = (within.0, within-closed ids rows n row found within.1)
 
--- ---- the first ones
-
-pub within-take : (ids : Ids) (len : ℕ) (rows : Rows) → AllByRecursion (IsEntryWithin ids) rows → AllByRecursion (IsEntryWithin ids) (take len rows)
-within-take ids zero rows within = tt
-within-take ids (suc len) [] within = tt
-within-take ids (suc len) (entry ∷ rows) within = (within.0, within-take ids len rows within.1)
-
--- ---- one of them
-
-pub within-at : (ids : Ids) (rows : Rows) (n : ℕ) (entry : Key × Row) → slice_get rows n ≡ Some entry → AllByRecursion (IsEntryWithin ids) rows → IsEntryWithin ids entry
-within-at ids [] n entry found within = absurd (cc)
-within-at ids (first ∷ rows) zero entry found within = let same : first ≡ entry = cc in subst (IsEntryWithin ids) same within.0
-within-at ids (first ∷ rows) (suc n) entry found within = within-at ids rows n entry found within.1
+pub packed-closed : {H S W T : Type 0} (by_stream : IndexMap StreamId (Vec ℕ H) S) (grains : IndexMap GrainId W T) (rows : Rows) (n : ℕ) (row : Row) (s : SubName) → IsPacked by_stream grains rows
+    → Some row ≡ slice_get (values_of rows) n → place_in s (entries_by (ids_in by_stream grains) rows) ≡ Some n
+    → IsPacked by_stream grains (set_value_at rows n (closed_row row))
+    × (entries_by (ids_in by_stream grains) (set_value_at rows n (closed_row row)) ≡ changed_value same_sub s closed_registration (entries_by (ids_in by_stream grains) rows))
+packed-closed by_stream grains rows n row s is found placed =
+    let ids = ids_in by_stream grains in
+    let left = set_value_at rows n (closed_row row) in
+    let closed = entries-closed ids rows n row found ∙ (stands-placed s (entries_by ids rows) n placed).1 in
+    let indexed = indexed-closed (entries_by ids rows) (entries_by ids left) s (row_of same_stream by_stream) closed is.indexed in
+    ((packed-rows by_stream by_stream grains rows left refl is (within-closed ids rows n row found is.within) indexed).0, closed)

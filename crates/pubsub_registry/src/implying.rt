@@ -136,9 +136,9 @@ fn is_new(
     earlier: &Span,
     event: &HeaderRef,
 ) -> bool
-    ensures { result ≡ ((not (token_lt event.now.token (batch_token rule.now.from)) && not (is_some (value_at same_sub (SubName.Implicit rule.now.kind event.now.stream) subscriptions.now)))
-        && not (makes_any rule.now.kind event.now before.now
-        || list_any (λ (other : Event). same_stream event.now.stream other.stream && makes_any rule.now.kind other rules.now) earlier.now)) }
+    ensures { result ≡ (not (token_lt event.now.token (batch_token rule.now.from)) && not (is_some (value_at same_sub (SubName.Implicit rule.now.kind event.now.stream) subscriptions.now)
+        || (makes_any rule.now.kind event.now before.now
+        || list_any (λ (other : Event). same_stream event.now.stream other.stream && makes_any rule.now.kind other rules.now) earlier.now))) }
 {
     holds_for(rule, event)
         && subscriptions.find(&implied_name(rule, event)).is_none()

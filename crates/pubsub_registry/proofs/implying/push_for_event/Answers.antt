@@ -10,5 +10,5 @@ push_by_rule-requires c =
 pub returns-in_err-push_by_rule-clause-memory : goal.returns-in_err-push_by_rule-clause-memory
 returns-in_err-push_by_rule-clause-memory c =
     let more : length c.args.subscriptions.now < length (fold added c.args.subscriptions.now (flat_map (made c.args.event.now) c.args.rules.now)) =
-    more-at (made c.args.event.now) c.args.subscriptions.now c.loop-rule.subscriptions c.args.rules.now c.loop-rule.rule-index c.rule-item.result c.loop-rule-test.true c.rule-item.is c.loop-rule.invariant.all c.in_err-push_by_rule.ensures.memory in
+    more-at (made c.args.event.now) c.args.subscriptions.now c.loop-rule.subscriptions c.args.rules.now c.loop-rule.rule-index c.rule-item.result c.rule-item.result c.loop-rule-test.true c.rule-item.is c.loop-rule.invariant.all c.in_err-push_by_rule.ensures.memory in
     search (rules, more)

@@ -1,20 +1,19 @@
-use Rattle.pubsub_registry.proofs.Prelude.{◌≡◌, ◌∙◌, None, Some, sym, ap, subst, keys_of, same_grain-equal, same_stream-equal, same_grain, same_stream}
-use Rattle.std.proofs.Common.{position}
-use Rattle.stream_ident.specs.declared.ident.GrainId.{GrainId}
+use Rattle.pubsub_registry.proofs.Prelude.{◌∙◌, Some, sym, ap, keys_of, same_grain-equal, same_grain-refl, same_stream-equal, same_stream-refl, same_grain, same_stream}
 use Rattle.pubsub_registry.specs.Packed.{ids_in}
-use Rattle.pubsub_registry.proofs.PackedLemmas.{if-none, key-found, name-made, no-grain, no-stream}
+use Rattle.pubsub_registry.proofs.PackedLemmas.{if-none, key-found, key-missing, name-made, no-key}
 use Rattle.pubsub_registry.proofs.packed.known_key.Goals as goal
 
 pub returns-in_err-number-in-Implicit-clause-none : goal.returns-in_err-number-in-Implicit-clause-none
 returns-in_err-number-in-Implicit-clause-none c =
     if-none _ c.from_residual.result
-    (no-stream (ids_in c.args.streams.now c.args.grains.now) c.args.sub.now c.in-Implicit.kind c.in-Implicit.stream c.in-Implicit.is (sym c.in_err-number-in-Implicit.ensures.number))
+    (no-key (ids_in c.args.streams.now c.args.grains.now) c.args.sub.now c.in-Implicit.kind c.in-Implicit.stream c.in-Implicit.is
+    (λ g n of_grain. key-missing same_stream same_stream-refl (keys_of c.args.streams.now.entries) c.in-Implicit.stream (sym c.in_err-number-in-Implicit.ensures.number) n))
 
 pub returns-in_err-grain-in-Implicit-clause-none : goal.returns-in_err-grain-in-Implicit-clause-none
 returns-in_err-grain-in-Implicit-clause-none c =
     if-none _ c.from_residual-in_err-grain-in-Implicit.result
-    (no-grain (ids_in c.args.streams.now c.args.grains.now) c.args.sub.now c.in-Implicit.kind c.in-Implicit.stream c.in-Implicit.is
-    (subst (λ (grain : GrainId). position (same_grain grain) (keys_of c.args.grains.now.entries) ≡ None) c.implied_grain.ensures (sym c.in_err-grain-in-Implicit.ensures.number)))
+    (no-key (ids_in c.args.streams.now c.args.grains.now) c.args.sub.now c.in-Implicit.kind c.in-Implicit.stream c.in-Implicit.is
+    (λ g n of_grain of_stream. key-missing same_grain same_grain-refl (keys_of c.args.grains.now.entries) c.implied_grain.result (sym c.in_err-grain-in-Implicit.ensures.number) g (of_grain ∙ ap Some (sym c.implied_grain.ensures))))
 
 pub returns-in_ok-grain-in-Implicit-clause-some : goal.returns-in_ok-grain-in-Implicit-clause-some
 returns-in_ok-grain-in-Implicit-clause-some c =

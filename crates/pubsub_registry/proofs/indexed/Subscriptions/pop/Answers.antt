@@ -1,14 +1,15 @@
-use Rattle.pubsub_registry.proofs.Prelude.{◌≡◌, ◌∙◌, ◌-◌, ◌++◌, ◌∷◌, [], ◌<◌, List, Some, ap, sym, subst, take, length, length-take, arith, slice_get-get_or, take-map, keys_of, slice_get, same_stream}
+use Rattle.pubsub_registry.proofs.Prelude.{◌≡◌, ◌∙◌, ◌-◌, ◌++◌, ◌∷◌, [], ◌<◌, List, Some, ap, sym, subst, take, length, length-take, arith, All-take, slice_get-get_or, take-map, keys_of, slice_get, same_stream}
+use Rattle.std.proofs.lemmas.List.Elements.{All-from_recursion, recursion_from_All}
 use Rattle.indexmap.proofs.MapLemmas.{split_last}
 use Rattle.pubsub_registry.specs.Index.{IsIndexed}
-use Rattle.pubsub_registry.specs.Packed.{entries_by, entry_by, ids_in, IsPacked}
+use Rattle.pubsub_registry.specs.Packed.{entries_by, entry_by, ids_in, IsEntryWithin, IsPacked}
 use Rattle.pubsub_registry.specs.Registry.{no_entry}
 use Rattle.pubsub_registry.specs.Rows.{row_of}
 use Rattle.pubsub_registry.specs.declared.packed.Key.{Key}
 use Rattle.pubsub_registry.specs.declared.packed.Row.{Row}
 use Rattle.pubsub_registry.proofs.Entries.{Names}
 use Rattle.pubsub_registry.proofs.IndexLemmas.{indexed-pop}
-use Rattle.pubsub_registry.proofs.PackedLemmas.{packed-rows, within-take}
+use Rattle.pubsub_registry.proofs.PackedLemmas.{packed-rows}
 use Rattle.pubsub_registry.proofs.indexed.Subscriptions.pop.Goals as goal
 
 pub take_out-requires : goal.take_out-requires
@@ -32,7 +33,7 @@ invariant_of-self c =
     let within = c.entry_at.ensures.within ids c.self.invariant.within in
     let there = slice_get-get_or ids.streams c.entry_at.result.1.now.stream no_entry.1.stream within.1.0 in
     subst (λ (left : List (Key × Row)). IsPacked new grains left) (sym c.truncate.ensures.entries)
-    (packed-rows by_stream new grains rows (take last rows) c.take_out.ensures.0 c.self.invariant (within-take ids last rows c.self.invariant.within)
+    (packed-rows by_stream new grains rows (take last rows) c.take_out.ensures.0 c.self.invariant (recursion_from_All (IsEntryWithin ids) (take last rows) (All-take (IsEntryWithin ids) last rows (All-from_recursion (IsEntryWithin ids) rows c.self.invariant.within)))
     (subst (λ (names : Names). IsIndexed names (row_of same_stream new)) (take-map (entry_by ids) last rows)
     (indexed-pop (take last names) _ _ own.0 own.1 last (omega (arith, long, some, length-take last names)) names (split ∙ ap (λ n. take n names ++ own ∷ []) same) c.self.invariant.indexed
     (λ other. c.take_out.ensures.1 own.1.stream other there)))).0

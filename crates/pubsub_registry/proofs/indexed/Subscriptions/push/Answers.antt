@@ -37,9 +37,9 @@ pub put_row-requires-clause-new : goal.put_row-requires-clause-new
 put_row-requires-clause-new c =
     let ids = ids_in c.row_for.new.by_stream c.row_for.new.grains in
     let rows = c.self.inside.rows.entries in
-    let names = (c.row_for.ensures.packed rows c.self.invariant).1 ∙ c.self.view_is in
+    let mid = c.row_for.ensures.packed rows c.self.invariant in
     let named = key-made ids c.args.sub.now c.args.registration.now c.key_of-key.result c.in_ok-row.row.grain c.in_ok-row.row.stream c.key_of-key.ensures c.requires.own c.in_ok-row.ensures.grain c.in_ok-row.ensures.stream in
-    absent-key ids c.args.sub.now c.key_of-key.result named.1 rows (subst (λ (names : Names). lookup (same_sub c.args.sub.now) names ≡ None) (sym names) c.requires.new)
+    absent-key ids mid.0.streams_apart mid.0.grains_apart c.args.sub.now c.key_of-key.result named rows mid.0.within (subst (λ (names : Names). lookup (same_sub c.args.sub.now) names ≡ None) (sym (mid.1 ∙ c.self.view_is)) c.requires.new)
 
 pub put_row-requires-clause-at : goal.put_row-requires-clause-at
 put_row-requires-clause-at c = λ key at_key.
