@@ -1,14 +1,15 @@
 -- A table with one subscription closed.
-use Rattle.subscription_table.proofs.Prelude.{closed, SubState, AreUnique, PlainRegistry, close_found, registration_of, closed_registration, Registration, tag_of, ranked-set, with_leaf, PlainResumes, Leaf, ◌≡◌, ◌∙◌, ℕ, zero, suc, ◌+◌, ◌^◌, ◌<◌, ◌⊎◌, inl, inr, Bool, true, false, List, [], ◌∷◌, length, get_or, set, Option, Some, None, if◌then◌else◌, refl, sym, ap, ap₂, subst, arith, length-set, get_or-set_same, get_or-set_other, cases_eq, false_from_ne_true, get_or_default, map-set, get_or_from_slice_get, slice_get-get_or, slice_get, same_sub, sub_lt, changed_value, SubName}
+use Rattle.subscription_table.proofs.Prelude.{closed, SubState, AreUnique, PlainRegistry, close_found, registration_of, closed_registration, Registration, tag_of, ranked-set, with_leaf, PlainResumes, Leaf, ◌≡◌, ◌∙◌, ℕ, zero, suc, ◌<◌, Bool, true, false, List, [], ◌∷◌, length, get_or, set, Option, Some, None, if◌then◌else◌, refl, sym, ap, ap₂, subst, arith, false_from_ne_true, get_or_default, map-set, get_or_from_slice_get, slice_get-get_or, slice_get, same_sub, sub_lt, changed_value, SubName}
 use Rattle.std.proofs.Math.Seq.{map-set_same}
 use Rattle.stream_ident.specs.declared.ident.SubName.TheVariants as name
 use Rattle.pubsub_registry.specs.Registry as registry
 use Rattle.pubsub_registry.specs.declared.told.Closing.{Closing}
 use Rattle.pubsub_registry.specs.declared.told.Closing.TheVariants.{Done, NoSuch, Implicit, Closed}
 use Rattle.stream_ident.proofs.SameValues.{same_sub-refl}
-use Rattle.subscription_table.specs.Standing.{kept_of, name_of, tags_of, AreRecords, IsTable}
-use Rattle.subscription_table.specs.Table.{PlainTable, close, closed_by, no_entry, no_state, state_at}
+use Rattle.subscription_table.specs.Standing.{kept_of, name_of, tags_of, IsTable}
+use Rattle.subscription_table.specs.Table.{PlainTable, close, closed_by, no_entry, state_at}
 use Rattle.subscription_table.proofs.LeafLemmas.{Entry, Names}
+use Rattle.subscription_table.proofs.TableLemmas.{records-set, stands-at, Stands}
 
 -- what a registry told, and what it is then
 abbrev Told : Type 0
@@ -53,25 +54,6 @@ closed-at (entry ∷ entries) (suc number) within unique =
         let one = unique (suc number) 0 (get_or entries number no_entry) entry (slice_get-get_or entries number no_entry here) refl same in
         absurd (omega arith))
 
--- what holds of a new entry and its state and of the old ones holds of all
-at-both : (P : Entry → SubState → Type 0) (names : Names) (states : List SubState) (number : ℕ) (entry : Entry) (state : SubState) → length states ≡ length names → P entry state
-    → ((i : ℕ) → i < length states → P (get_or names i no_entry) (get_or states i no_state))
-    → (i : ℕ) → i < length (set states number state) → P (get_or (set names number entry) i no_entry) (get_or (set states number state) i no_state)
-at-both P names states number entry state long here each i within =
-    let old : i < length states = omega (arith, length-set states number state) in
-    by old (cases_eq i number)
-  where
-    by : i < length states → (i ≡ number) ⊎ (i ≡ number → ⊥) → P (get_or (set names number entry) i no_entry) (get_or (set states number state) i no_state)
-    by old (inl same) =
-        let in_states : number < length states = omega arith in
-        let in_names : number < length names = omega arith in
-        subst (λ (k : ℕ). P (get_or (set names number entry) k no_entry) (get_or (set states number state) k no_state)) (sym same)
-        (subst (λ (e : Entry). P e (get_or (set states number state) number no_state)) (sym (get_or-set_same names number entry no_entry in_names))
-        (subst (P entry) (sym (get_or-set_same states number state no_state in_states)) here))
-    by old (inr other) =
-        subst (λ (e : Entry). P e (get_or (set states number state) i no_state)) (sym (get_or-set_other names number i entry no_entry other))
-        (subst (P (get_or names i no_entry)) (sym (get_or-set_other states number i state no_state other)) (each i old))
-
 module _ {t : PlainTable} {tags : List ℕ} {r : PlainResumes} (is : IsTable t tags r) (number : ℕ) (within : number < length t.registry.names) (unique : AreUnique t.registry.names)
     (new_registry : PlainRegistry) (names-closed : new_registry.names ≡ changed_value same_sub (get_or t.registry.names number no_entry).0 closed_registration t.registry.names) where
   abbrev entry : Entry
@@ -83,25 +65,13 @@ module _ {t : PlainTable} {tags : List ℕ} {r : PlainResumes} (is : IsTable t t
   names : new_registry.names ≡ set t.registry.names number closed_entry
   names = names-closed ∙ closed-at t.registry.names number within unique
 
-  records-closed : AreRecords (record { registry = new_registry; states = set t.states number (closed (state_at t number)) })
-  records-closed =
-      let state = closed (state_at t number) in
-      let there : number < length t.states = omega (arith, is.records.long) in
-      record {
-        long = length-set t.states number state ∙ is.records.long ∙ sym (ap length names ∙ length-set t.registry.names number closed_entry);
-        starts = λ i i_within. subst (λ (all : Names). (get_or (set t.states number state) i no_state).start ≡ (get_or all i no_entry).1.start) (sym names)
-            (at-both (λ e s. s.start ≡ e.1.start) t.registry.names t.states number closed_entry state is.records.long (is.records.starts number there) is.records.starts i i_within);
-        openness = λ i i_within. subst (λ (all : Names). (get_or (set t.states number state) i no_state).live ≡ (get_or all i no_entry).1.is_open) (sym names)
-            (at-both (λ e s. s.live ≡ e.1.is_open) t.registry.names t.states number closed_entry state is.records.long refl is.records.openness i i_within);
-        cursors = at-both (λ e s. s.cursor + 2 < 2 ^ 64) t.registry.names t.states number closed_entry state is.records.long (is.records.cursors number there) is.records.cursors;
-        resumes = at-both (λ e s. s.resume + 2 < 2 ^ 64) t.registry.names t.states number closed_entry state is.records.long (is.records.resumes number there) is.records.resumes;
-      }
-
   pub table-closed : {now : SubState} → now ≡ closed (state_at t number) → {new : PlainResumes} → new ≡ with_leaf number (kept_of now) r → IsTable (record { registry = new_registry; states = set t.states number now }) tags new
   table-closed {now} closes {new} set_to =
       let renamed = ranked-set t.registry.names r.order number closed_entry within name_of sub_lt (λ d. ap name_of (get_or_default t.registry.names number no_entry d within)) is.ranked in
+      let old = stands-at is.records number (omega (arith, within, is.records.long)) in
       record {
-        records = subst (λ (s : SubState). AreRecords (record { registry = new_registry; states = set t.states number s })) (sym closes) records-closed;
+        records = records-set t is.records number new_registry closed_entry now names
+            (subst (Stands closed_entry) (sym closes) (record { start = old.start; openness = refl; cursor = old.cursor; resume = old.resume }));
         tagged = is.tagged ∙ sym (ap tags_of names ∙ map-set_same (λ (e : Entry). tag_of e.1.stream) t.registry.names number closed_entry no_entry refl);
         leaved = ap (λ (r : PlainResumes). r.leaves) set_to ∙ ap (λ (all : List Leaf). set all number (kept_of now)) is.leaved ∙ sym (map-set kept_of t.states number now);
         ranked = rw (set_to, names) renamed;

@@ -20,6 +20,7 @@ use Rattle.subscription_table.specs.Rows.{new_leaves, AreAllNamed, AreNamed}
 use Rattle.subscription_table.specs.Standing.{kept_of, name_of, tags_of, AreRecords, IsTable}
 use Rattle.subscription_table.specs.Table.{PlainTable, new_states, no_entry, no_state}
 use Rattle.subscription_table.proofs.LeafLemmas.{Entry, Names, kept-new_states}
+use Rattle.subscription_table.proofs.TableLemmas.{records-of, stands-at, Stands}
 
 abbrev pub IsOpen : Entry → Type 0
 IsOpen entry = entry.1.is_open ≡ true
@@ -27,12 +28,12 @@ IsOpen entry = entry.1.is_open ≡ true
 abbrev pub AreOpen : Names → Type 0
 AreOpen names = All IsOpen names
 
--- what holds of each name and its state, with those of more names
-each-grown : (P : Entry → SubState → Type 0) (names more : Names) (states : List SubState) (position : ℕ) → length states ≡ length names
-    → ((i : ℕ) → i < length states → P (get_or names i no_entry) (get_or states i no_state))
-    → ((j : ℕ) → j < length more → P (get_or more j no_entry) (new_state (get_or more j no_entry).1.start position))
-    → (i : ℕ) → i < length (states ++ new_states position more) → P (get_or (names ++ more) i no_entry) (get_or (states ++ new_states position more) i no_state)
-each-grown P names more states position long old new i within = by (cases_lt i (length states))
+-- each name and its state, with those of more names
+each-grown : (names more : Names) (states : List SubState) (position : ℕ) → length states ≡ length names
+    → ((i : ℕ) → i < length states → Stands (get_or names i no_entry) (get_or states i no_state))
+    → ((j : ℕ) → j < length more → Stands (get_or more j no_entry) (new_state (get_or more j no_entry).1.start position))
+    → (i : ℕ) → i < length (states ++ new_states position more) → Stands (get_or (names ++ more) i no_entry) (get_or (states ++ new_states position more) i no_state)
+each-grown names more states position long old new i within = by (cases_lt i (length states))
   where
     entry-left : i < length states → get_or (names ++ more) i no_entry ≡ get_or names i no_entry
     entry-left left = get_or_append_left names more no_entry i (omega arith)
@@ -45,14 +46,14 @@ each-grown P names more states position long old new i within = by (cases_lt i (
         get_or-append_right states (new_states position more) (length states) i no_state refl right
         ∙ get_or-map (λ (entry : Entry). new_state entry.1.start position) more (i - length states) no_entry no_state there
 
-    by : (i < length states) ⊎ (length states ≤ i) → P (get_or (names ++ more) i no_entry) (get_or (states ++ new_states position more) i no_state)
+    by : (i < length states) ⊎ (length states ≤ i) → Stands (get_or (names ++ more) i no_entry) (get_or (states ++ new_states position more) i no_state)
     by (inl left) =
-        subst (λ (e : Entry). P e (get_or (states ++ new_states position more) i no_state)) (sym (entry-left left))
-        (subst (P (get_or names i no_entry)) (sym (get_or_append_left states (new_states position more) no_state i left)) (old i left))
+        subst (λ (e : Entry). Stands e (get_or (states ++ new_states position more) i no_state)) (sym (entry-left left))
+        (subst (Stands (get_or names i no_entry)) (sym (get_or_append_left states (new_states position more) no_state i left)) (old i left))
     by (inr right) =
         let there : i - length states < length more = omega (arith, length-append states (new_states position more), length-map more (λ (entry : Entry). new_state entry.1.start position)) in
-        subst (λ (e : Entry). P e (get_or (states ++ new_states position more) i no_state)) (sym (entry-right right))
-        (subst (P (get_or more (i - length states) no_entry)) (sym (state-right right there)) (new (i - length states) there))
+        subst (λ (e : Entry). Stands e (get_or (states ++ new_states position more) i no_state)) (sym (entry-right right))
+        (subst (Stands (get_or more (i - length states) no_entry)) (sym (state-right right there)) (new (i - length states) there))
 
 -- names with open ones behind them
 pub record IsGrown (old new : Names) : Type 0 where
@@ -62,15 +63,11 @@ pub record IsGrown (old new : Names) : Type 0 where
 
 module _ {t : PlainTable} {tags : List ℕ} {kept : PlainResumes} (is : IsTable t tags kept) (r : PlainRegistry) (more : Names) (names : r.names ≡ t.registry.names ++ more) (opened : AreOpen more) (position : ℕ) (room : position + 2 < 2 ^ 64) where
   records-grown : AreRecords (record { registry = r; states = t.states ++ new_states position more })
-  records-grown = record {
-    long = omega (arith, length-append t.states (new_states position more), length-map more (λ (entry : Entry). new_state entry.1.start position), ap length names, length-append t.registry.names more, is.records.long);
-    starts = λ i low. subst (λ (all : Names). (get_or (t.states ++ new_states position more) i no_state).start ≡ (get_or all i no_entry).1.start) (sym names)
-        (each-grown (λ entry state. state.start ≡ entry.1.start) t.registry.names more t.states position is.records.long is.records.starts (λ j there. refl) i low);
-    openness = λ i low. subst (λ (all : Names). (get_or (t.states ++ new_states position more) i no_state).live ≡ (get_or all i no_entry).1.is_open) (sym names)
-        (each-grown (λ entry state. state.live ≡ entry.1.is_open) t.registry.names more t.states position is.records.long is.records.openness (λ j there. sym (opened j no_entry there)) i low);
-    cursors = each-grown (λ entry state. state.cursor + 2 < 2 ^ 64) t.registry.names more t.states position is.records.long is.records.cursors (λ j there. room);
-    resumes = each-grown (λ entry state. state.resume + 2 < 2 ^ 64) t.registry.names more t.states position is.records.long is.records.resumes (λ j there. room);
-  }
+  records-grown =
+      records-of (record { registry = r; states = t.states ++ new_states position more })
+      (omega (arith, length-append t.states (new_states position more), length-map more (λ (entry : Entry). new_state entry.1.start position), ap length names, length-append t.registry.names more, is.records.long))
+      (λ i low. subst (λ (all : Names). Stands (get_or all i no_entry) (get_or (t.states ++ new_states position more) i no_state)) (sym names)
+      (each-grown t.registry.names more t.states position is.records.long (stands-at is.records) (λ j there. record { start = refl; openness = sym (opened j no_entry there); cursor = room; resume = room }) i low))
 
   -- the rows with those of the new names
   table-grown : {states : List SubState} {new_tags : List ℕ} {new : PlainResumes} → states ≡ t.states ++ new_states position more → new_tags ≡ tags ++ tags_of more → new.leaves ≡ kept.leaves ++ new_leaves position more

@@ -3,7 +3,7 @@ use Rattle.subscription_table.proofs.Prelude.{SubState, PlainResumes, ◌≡◌,
 use Rattle.subscription_table.specs.Rows.{AreRewoundAt}
 use Rattle.subscription_table.specs.Standing.{kept_of, IsTable}
 use Rattle.subscription_table.specs.Table.{PlainTable, is_in, no_state, rewound_open, state_at}
-use Rattle.subscription_table.proofs.TableLemmas.{Fits}
+use Rattle.subscription_table.proofs.TableLemmas.{records-of, stands-at, stands-fitting, Fits}
 
 -- a state that fits another, and of which the same is kept
 record Follows (old new : SubState) : Type 0 where
@@ -27,13 +27,9 @@ follows-if false s stands = record { fits = stands; leaf = refl }
 module _ {t : PlainTable} {tags : List ℕ} {r : PlainResumes} (is : IsTable t tags r) (new : List SubState) where
   table-followed : length new ≡ length t.states → ((i : ℕ) → i < length t.states → Fits (state_at t i) (state_at t i) → Follows (state_at t i) (get_or new i no_state)) → IsTable (record t { states = new }) tags r
   table-followed same each = record {
-    records = record {
-      long = same ∙ is.records.long;
-      starts = λ i within. (follows i (omega (arith, same))).fits.start ∙ is.records.starts i (omega (arith, same));
-      openness = λ i within. (follows i (omega (arith, same))).fits.openness ∙ is.records.openness i (omega (arith, same));
-      cursors = λ i within. (follows i (omega (arith, same))).fits.cursor;
-      resumes = λ i within. (follows i (omega (arith, same))).fits.resume;
-    };
+    records = records-of (record t { states = new }) (same ∙ is.records.long) (λ i within.
+        let there : i < length t.states = omega (arith, within, same) in
+        stands-fitting (follows i there).fits (stands-at is.records i there));
     tagged = is.tagged;
     leaved = is.leaved ∙ same_lists (map kept_of t.states) (map kept_of new) (old_long ∙ sym (length-map new kept_of ∙ same))
         (λ k d within. let there : k < length t.states = omega (arith, old_long) in

@@ -1,8 +1,11 @@
 -- A table with one state changed.
-use Rattle.subscription_table.proofs.Prelude.{SubState, PlainRegistry, with_leaf, PlainResumes, AreRanked, Leaf, ◌≡◌, ◌∙◌, ℕ, ◌+◌, ◌^◌, ◌<◌, ◌⊎◌, inl, inr, List, length, get_or, map, set, refl, sym, ap, subst, arith, length-set, get_or-set_same, get_or-set_other, cases_eq, get_or_read, map-set, sub_lt}
+use Rattle.subscription_table.proofs.Prelude.{SubState, PlainRegistry, with_leaf, PlainResumes, AreRanked, Leaf, ◌≡◌, ◌∙◌, ℕ, ◌+◌, ◌^◌, ◌<◌, ◌⊎◌, inl, inr, List, length, get_or, map, set, refl, sym, ap, subst, arith, length-set, get_or-set_other, cases_eq, get_or_read, map-set, sub_lt}
 use Rattle.std.proofs.Math.Seq.{map-set_same}
+use Rattle.std.proofs.lemmas.Grind.{get_or-set_at}
+use Rattle.std.proofs.lemmas.List.{set-get_or}
 use Rattle.subscription_table.specs.Standing.{kept_of, name_of, AreRecords, IsTable}
 use Rattle.subscription_table.specs.Table.{PlainTable, no_entry, no_state, state_at, with_state}
+use Rattle.subscription_table.proofs.LeafLemmas.{Entry, Names}
 
 -- a state that agrees with the registration of another, and leaves room for two more positions
 pub record Fits (old new : SubState) : Type 0 where
@@ -11,31 +14,49 @@ pub record Fits (old new : SubState) : Type 0 where
   pub cursor : new.cursor + 2 < 2 ^ 64
   pub resume : new.resume + 2 < 2 ^ 64
 
--- what holds of a new state and of the old ones holds of all
-at-each : (P : ℕ → SubState → Type 0) (states : List SubState) (number : ℕ) (state : SubState) → P number state
-    → ((i : ℕ) → i < length states → P i (get_or states i no_state)) → (i : ℕ) → i < length (set states number state) → P i (get_or (set states number state) i no_state)
-at-each P states number state here each i within =
-    let old : i < length states = omega (arith, length-set states number state) in
-    by old (cases_eq i number)
+-- a state that agrees with the registration of its name, and leaves room for two more positions
+pub record Stands (entry : Entry) (state : SubState) : Type 0 where
+  pub start : state.start ≡ entry.1.start
+  pub openness : state.live ≡ entry.1.is_open
+  pub cursor : state.cursor + 2 < 2 ^ 64
+  pub resume : state.resume + 2 < 2 ^ 64
+
+pub stands-at : {t : PlainTable} → AreRecords t → (i : ℕ) → i < length t.states → Stands (get_or t.registry.names i no_entry) (state_at t i)
+stands-at r i within = record { start = r.starts i within; openness = r.openness i within; cursor = r.cursors i within; resume = r.resumes i within }
+
+pub stands-fitting : {entry : Entry} {old new : SubState} → Fits old new → Stands entry old → Stands entry new
+stands-fitting fits old = record { start = fits.start ∙ old.start; openness = fits.openness ∙ old.openness; cursor = fits.cursor; resume = fits.resume }
+
+pub records-of : (t : PlainTable) → length t.states ≡ length t.registry.names → ((i : ℕ) → i < length t.states → Stands (get_or t.registry.names i no_entry) (state_at t i)) → AreRecords t
+records-of t long each = record {
+  long = long;
+  starts = λ i within. (each i within).start;
+  openness = λ i within. (each i within).openness;
+  cursors = λ i within. (each i within).cursor;
+  resumes = λ i within. (each i within).resume;
+}
+
+-- one name and its state changed
+pub records-set : (t : PlainTable) → AreRecords t → (number : ℕ) (new : PlainRegistry) (entry : Entry) (state : SubState) → new.names ≡ set t.registry.names number entry → Stands entry state
+    → AreRecords (record { registry = new; states = set t.states number state })
+records-set t r number new entry state names stands =
+    records-of (record { registry = new; states = set t.states number state })
+    (length-set t.states number state ∙ r.long ∙ sym (ap length names ∙ length-set t.registry.names number entry))
+    (λ i within. subst (λ (all : Names). Stands (get_or all i no_entry) (get_or (set t.states number state) i no_state)) (sym names)
+    (by i (omega (arith, within, length-set t.states number state)) (cases_eq i number)))
   where
-    by : i < length states → (i ≡ number) ⊎ (i ≡ number → ⊥) → P i (get_or (set states number state) i no_state)
-    by old (inl same) =
-        let there : number < length states = omega arith in
-        subst (λ (k : ℕ). P k (get_or (set states number state) k no_state)) (sym same) (subst (P number) (sym (get_or-set_same states number state no_state there)) here)
-    by old (inr other) = subst (P i) (sym (get_or-set_other states number i state no_state other)) (each i old)
+    by : (i : ℕ) → i < length t.states → (i ≡ number) ⊎ (i ≡ number → ⊥) → Stands (get_or (set t.registry.names number entry) i no_entry) (get_or (set t.states number state) i no_state)
+    by i old (inl same) =
+        subst (λ (e : Entry). Stands e (get_or (set t.states number state) i no_state)) (sym (get_or-set_at t.registry.names number i entry no_entry same (omega (arith, r.long))))
+        (subst (Stands entry) (sym (get_or-set_at t.states number i state no_state same (omega arith))) stands)
+    by i old (inr other) =
+        subst (λ (e : Entry). Stands e (get_or (set t.states number state) i no_state)) (sym (get_or-set_other t.registry.names number i entry no_entry other))
+        (subst (Stands (get_or t.registry.names i no_entry)) (sym (get_or-set_other t.states number i state no_state other)) (stands-at r i old))
 
-module _ (t : PlainTable) (r : AreRecords t) (number : ℕ) (within : number < length t.registry.names) (state : SubState) (fits : Fits (state_at t number) state) where
-  there : number < length t.states
-  there = omega (arith, r.long)
-
-  pub records-with : AreRecords (with_state t number state)
-  records-with = record {
-    long = length-set t.states number state ∙ r.long;
-    starts = at-each (λ i s. s.start ≡ (get_or t.registry.names i no_entry).1.start) t.states number state (fits.start ∙ r.starts number there) r.starts;
-    openness = at-each (λ i s. s.live ≡ (get_or t.registry.names i no_entry).1.is_open) t.states number state (fits.openness ∙ r.openness number there) r.openness;
-    cursors = at-each (λ i s. s.cursor + 2 < 2 ^ 64) t.states number state fits.cursor r.cursors;
-    resumes = at-each (λ i s. s.resume + 2 < 2 ^ 64) t.states number state fits.resume r.resumes;
-  }
+pub records-with : (t : PlainTable) → AreRecords t → (number : ℕ) → number < length t.registry.names → (state : SubState) → Fits (state_at t number) state → AreRecords (with_state t number state)
+records-with t r number within state fits =
+    records-set t r number t.registry (get_or t.registry.names number no_entry) state (sym (set-get_or t.registry.names number no_entry))
+    (stands-fitting fits (stands-at r number (omega (arith, r.long))))
 
 -- a state that was read and written: what it was, and what it is now
 module _ {t old : PlainTable} {tags : List ℕ} {r : PlainResumes} (is : IsTable t tags r) (same : t ≡ old) (number : ℕ) (within : number < length old.registry.names)

@@ -1,4 +1,4 @@
-use Rattle.subscription_table.proofs.Prelude.{caught_up, SubState, PlainCache, high, ◌≡◌, ◌∙◌, ◌-◌, ◌<◌, ◌≤◌, ℕ, List, false, get_or, length, refl, ap, ap₂, sym, subst, arith, slice_index}
+use Rattle.subscription_table.proofs.Prelude.{caught_up, SubState, high, ◌≡◌, ◌∙◌, ◌<◌, ℕ, List, false, get_or, length, refl, ap, ap₂, sym, subst, arith, slice_index}
 use Rattle.subscription_table.specs.Idle.{IsIdle}
 use Rattle.subscription_table.specs.Table.{PlainTable, no_entry}
 use Rattle.subscription_table.proofs.IdleLemmas.{catch-step}

@@ -1,4 +1,4 @@
-use Rattle.subscription_table.proofs.Prelude.{high, open_leaf, with_leaves, ◌-◌, length, ◌≡◌}
+use Rattle.subscription_table.proofs.Prelude.{high, open_leaf, with_leaves, ◌-◌}
 use Rattle.subscription_table.specs.Idle.{CatchUpAt}
 use Rattle.subscription_table.specs.Standing.{IsTable}
 use Rattle.subscription_table.proofs.table.idle.catch_up_each.Given as goal
