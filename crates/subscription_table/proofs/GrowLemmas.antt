@@ -1,5 +1,5 @@
 -- A table with more subscriptions, which have handled nothing.
-use Rattle.subscription_table.proofs.Prelude.{new_state, SubState, PlainRegistry, add, add_with, next_number, registered, truncated, tag_of, ranked-insert, open_leaf, pushed, PlainResumes, AreRanked, IsFirstPast, Leaf, ◌≡◌, ◌∙◌, ℕ, ◌+◌, ◌-◌, ◌^◌, ◌<◌, ◌≤◌, ◌⊎◌, inl, inr, Bool, true, false, List, [], ◌∷◌, ◌++◌, length, get_or, map, take, drop, None, Some, if◌then◌else◌, refl, sym, ap, subst, arith, All, length-append, cases_lt, append-nil, append_assoc, drop_at, get_or-append_right, get_or-map, get_or_append_left, length-map, map-append, take-append-le, take_at, fold, sub_order, same_sub, sub_lt, value_at, StreamId, SubName, Token}
+use Rattle.subscription_table.proofs.Prelude.{new_state, SubState, PlainRegistry, add, add_with, next_number, registered, truncated, tag_of, ranked-insert, open_leaf, pushed, PlainResumes, AreRanked, IsFirstPast, Leaf, ◌≡◌, ◌∙◌, ℕ, ◌+◌, ◌-◌, ◌^◌, ◌<◌, ◌≤◌, ◌⊎◌, inl, inr, Bool, true, false, List, [], ◌∷◌, ◌++◌, length, get_or, map, take, drop, None, Some, if◌then◌else◌, refl, sym, ap, subst, arith, All, length-append, cases_lt, append-nil, append_assoc, drop_at, get_or-append_right, get_or-map, get_or_append_left, length-map, map-append, take-append-le, take_at, fold, sub_order, same_sub, sub_lt, value_at, StreamId, Token}
 use Rattle.std.specs.Prelude.{is_some, nat_lt, ◌&&◌, not}
 use Rattle.std.specs.List.{flat_map}
 use Rattle.std.proofs.lemmas.List.Elements.{All-append, All-cons, All-from_recursion, All-head, All-nil, All-tail}
@@ -149,10 +149,6 @@ named-grown r old new named grown = record {
 pub grown-rest : (old new : Names) (grown : IsGrown old new) (len : ℕ) → len ≡ length old → drop len new ≡ grown.more
 grown-rest old new grown len is = ap (drop len) grown.is ∙ drop_at old grown.more len (sym is)
 
--- a name that isn't there is none of the names
-absent : (names : Names) (s : SubName) → value_at same_sub s names ≡ None → (d : Entry) (i : ℕ) → i < length names → same_sub s (get_or names i d).0 ≡ false
-absent names s none d i within = All-from_recursion (λ (e : Entry). same_sub s e.0 ≡ false) names (none_passes_from_lookup (same_sub s) names none) i d within
-
 module _ {t : PlainTable} {tags : List ℕ} {r : PlainResumes} (is : IsTable t tags r) (position : ℕ) (room : position + 2 < 2 ^ 64) where
   -- all that the rules made
   pub table-implied : {new : PlainRegistry} → Implies t.registry new → {states : List SubState} {new_tags : List ℕ} {new_r : PlainResumes}
@@ -175,4 +171,5 @@ module _ {t : PlainTable} {tags : List ℕ} {r : PlainResumes} (is : IsTable t t
       let names : new.names ≡ t.registry.names ++ entry ∷ [] =
       ap (λ (out : PlainRegistry × Added). out.0.names) (adds ∙ ap {B = PlainRegistry × Added} (add_with t.registry stream grain start) given) in
       table-grown is new (entry ∷ []) names (All-cons IsOpen entry [] refl (All-nil IsOpen)) position room stated tagged (ap (λ (r : PlainResumes). r.leaves) pushes)
-      (rw (pushes, names) (ranked-insert t.registry.names r.order rank entry is.ranked.long is.ranked.ranking first.within name_of sub_lt same_sub sub_order is.ranked first (absent t.registry.names entry.0 none)))
+      (rw (pushes, names) (ranked-insert t.registry.names r.order rank entry is.ranked.long is.ranked.ranking first.within name_of sub_lt same_sub sub_order is.ranked first
+      (λ d i inside. All-from_recursion (λ (e : Entry). same_sub entry.0 e.0 ≡ false) t.registry.names (none_passes_from_lookup (same_sub entry.0) t.registry.names none) i d inside)))
