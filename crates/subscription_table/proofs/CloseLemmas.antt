@@ -1,11 +1,14 @@
 -- A table with one subscription closed.
-use Rattle.subscription_table.proofs.Prelude.{closed, SubState, AreUnique, PlainRegistry, close_found, registration_of, closed_registration, Registration, tag_of, ranked-set, with_leaf, PlainResumes, Leaf, ◌≡◌, ◌∙◌, ℕ, zero, suc, ◌<◌, Bool, true, false, List, [], ◌∷◌, length, get_or, set, Option, Some, None, if◌then◌else◌, refl, sym, ap, ap₂, subst, arith, false_from_ne_true, get_or_default, map-set, get_or_from_slice_get, slice_get-get_or, slice_get, same_sub, sub_lt, changed_value, SubName}
+use Rattle.subscription_table.proofs.Prelude.{closed, SubState, AreUnique, PlainRegistry, close_found, registration_of, closed_registration, Registration, tag_of, ranked-set, with_leaf, PlainResumes, Leaf, ◌≡◌, ◌∙◌, ℕ, zero, suc, ◌<◌, Bool, true, false, List, [], ◌∷◌, length, get_or, set, Option, Some, None, if◌then◌else◌, refl, sym, ap, ap₂, subst, arith, false_from_ne_true, get_or_default, map-set, get_or_from_slice_get, slice_get-get_or, slice_get, same_sub, sub_lt, changed_value, place_of, SubName}
 use Rattle.std.proofs.Math.Seq.{map-set_same}
 use Rattle.stream_ident.specs.declared.ident.SubName.TheVariants as name
 use Rattle.pubsub_registry.specs.Registry as registry
 use Rattle.pubsub_registry.specs.declared.told.Closing.{Closing}
 use Rattle.pubsub_registry.specs.declared.told.Closing.TheVariants.{Done, NoSuch, Implicit, Closed}
-use Rattle.stream_ident.proofs.SameValues.{same_sub-refl}
+use Rattle.pubsub_registry.proofs.Entries.{stands-placed}
+use Rattle.stream_ident.specs.Words.{change_at}
+use Rattle.stream_ident.proofs.FirstLemmas.{first_at-there}
+use Rattle.stream_ident.proofs.SameValues.{same_sub-equal, same_sub-refl}
 use Rattle.subscription_table.specs.Standing.{kept_of, name_of, tags_of, IsTable}
 use Rattle.subscription_table.specs.Table.{PlainTable, close, closed_by, no_entry, state_at}
 use Rattle.subscription_table.proofs.LeafLemmas.{Entry, Names}
@@ -35,24 +38,27 @@ answers r new s told is = by s (registration_of r s) is
     by (name.Implicit kind stream) (Some registration) is = kept (name.Implicit kind stream) Implicit (λ apart. cc) is
     by (name.Explicit number) (Some registration) is = if-open (name.Explicit number) registration.is_open is
 
-unique-rest : (entry : Entry) (entries : Names) → AreUnique (entry ∷ entries) → AreUnique entries
-unique-rest entry entries unique i j a b at-i at-j same =
-    let more = unique (suc i) (suc j) a b at-i at-j same in omega arith
+-- no name stands twice, so that this one has this number
+pub number-there : (names : Names) (s : SubName) (number : ℕ) → AreUnique names → number < length names → same_sub s (get_or names number no_entry).0 ≡ true → Some number ≡ place_of same_sub s names
+number-there names s number unique within is =
+    sym (first_at-there (λ entry. same_sub s entry.0) 0 names no_entry number within is
+    (λ j less. false_from_ne_true (same_sub s (get_or names j no_entry).0) (λ also.
+    let equal = unique number j (get_or names number no_entry) (get_or names j no_entry) (slice_get-get_or names number no_entry within) (slice_get-get_or names j no_entry (omega (arith, less, within)))
+    (ap (λ (x : SubName). same_sub x (get_or names j no_entry).0) (sym (same_sub-equal s (get_or names number no_entry).0 is)) ∙ also) in
+    absurd (omega (arith, less, equal))))
+    ∙ ap {B = Option ℕ} Some (omega arith))
 
--- where no name stands twice, the registration of a name is that with its number
+change_at-set : (names : Names) (number : ℕ) → change_at closed_registration number names ≡ set names number ((get_or names number no_entry).0, closed_registration (get_or names number no_entry).1)
+change_at-set [] number = refl
+change_at-set (entry ∷ entries) zero = refl
+change_at-set (entry ∷ entries) (suc number) = ap (λ (rest : Names). entry ∷ rest) (change_at-set entries number)
+
+-- so that the registration of a name is that with its number
 closed-at : (names : Names) (number : ℕ) → number < length names → AreUnique names
     → changed_value same_sub (get_or names number no_entry).0 closed_registration names ≡ set names number ((get_or names number no_entry).0, closed_registration (get_or names number no_entry).1)
-closed-at [] number within unique = absurd (omega arith)
-closed-at (entry ∷ entries) zero within unique = ap (λ b. if b then (entry.0, closed_registration entry.1) ∷ entries else entry ∷ changed_value same_sub entry.0 closed_registration entries) (same_sub-refl entry.0)
-closed-at (entry ∷ entries) (suc number) within unique =
-    ap (λ b. if b then (entry.0, closed_registration entry.1) ∷ entries else entry ∷ changed_value same_sub (get_or entries number no_entry).0 closed_registration entries) apart
-    ∙ ap (λ (rest : Names). entry ∷ rest) (closed-at entries number (omega arith) (unique-rest entry entries unique))
-  where
-    apart : same_sub (get_or entries number no_entry).0 entry.0 ≡ false
-    apart = false_from_ne_true (same_sub (get_or entries number no_entry).0 entry.0) (λ same.
-        let here : number < length entries = omega arith in
-        let one = unique (suc number) 0 (get_or entries number no_entry) entry (slice_get-get_or entries number no_entry here) refl same in
-        absurd (omega arith))
+closed-at names number within unique =
+    let s : SubName = (get_or names number no_entry).0 in
+    sym (stands-placed s names number (sym (number-there names s number unique within (same_sub-refl s)))).1 ∙ change_at-set names number
 
 module _ {t : PlainTable} {tags : List ℕ} {r : PlainResumes} (is : IsTable t tags r) (number : ℕ) (within : number < length t.registry.names) (unique : AreUnique t.registry.names)
     (new_registry : PlainRegistry) (names-closed : new_registry.names ≡ changed_value same_sub (get_or t.registry.names number no_entry).0 closed_registration t.registry.names) where

@@ -13,7 +13,7 @@ pub use Rattle.ranked_index.specs.Leaves.{PlainResumes, due_from, keys_by_rank, 
 pub use Rattle.ranked_index.specs.Ranked.{AreKeys, AreRanked, IsFirstPast, entry_at, is_up_to, some_up_to}
 pub use Rattle.ranked_index.specs.Ranks.{due_at, due_key, resume_key}
 pub use Rattle.ranked_index.specs.declared.resumes.Leaf.{Leaf}
-pub use Rattle.std.proofs.Common.{All, Bool, List, None, Option, Some, [], ap, ap₂, arith, drop, false, get_or, get_or-set_other, get_or-set_same, if◌then◌else◌, inl, inr, length, length-append, length-set, map, max, nat_lt, not, refl, rules, set, subst, suc, sym, take, true, zero, ℕ, ◌&&◌, ◌++◌, ◌+◌, ◌-◌, ◌<◌, ◌==◌, ◌^◌, ◌||◌, ◌∙◌, ◌∷◌, ◌≡◌, ◌≤◌, ◌⊎◌}
+pub use Rattle.std.proofs.Common.{All, Bool, List, None, Option, Some, [], ap, ap₂, arith, drop, false, get_or, get_or-set_other, if◌then◌else◌, inl, inr, length, length-append, length-set, map, max, nat_lt, not, refl, rules, set, subst, suc, sym, take, true, zero, ℕ, ◌&&◌, ◌++◌, ◌+◌, ◌-◌, ◌<◌, ◌==◌, ◌^◌, ◌||◌, ◌∙◌, ◌∷◌, ◌≡◌, ◌≤◌, ◌⊎◌}
 pub use Rattle.std.proofs.lemmas.Bool.{cases_eq, cases_lt, eq-eqb, false_from_ne_true, le-leb, le-ltb, leb-false, leb-true, lt-leb, lt-ltb, ne_eqb, or_right}
 pub use Rattle.std.proofs.lemmas.List.{append-nil, append_assoc, drop_at, get_or-append_right, get_or-drop, get_or-map, get_or-take, get_or_append_left, get_or_default, get_or_read, length-drop, length-map, length-take-le, length_push, map-append, map-set, same_lists, take-append-le, take_all, take_at, take_more, with_items_is}
 pub use Rattle.std.proofs.lemmas.Option.{get_or_from_slice_get, same_Some, slice_get-get_or, slice_get-map, slice_get_within}
