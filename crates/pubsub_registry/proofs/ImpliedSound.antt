@@ -13,16 +13,20 @@ use Rattle.pubsub_registry.proofs.SoundLemmas.{IsNumbered, numbered-push, sound-
 abbrev IsImplicit : SubName × Registration → Type 0
 IsImplicit made = (number : ℕ) → made.0 ≡ name.Explicit number → ⊥
 
--- no explicit name is made
-all-implicit : (rules : List Rule) (events : List Event) → AllByRecursion IsImplicit (all_implied rules events)
-all-implicit rules = All-flat_map IsImplicit (λ event. flat_map (implied event) rules) (λ event. All-flat_map IsImplicit (implied event) (of_rule event) rules)
+-- what holds of each subscription that a rule makes of an event
+pub All-implied : (P : SubName × Registration → Type 0) → ((event : Event) (rule : Rule) → P (entry event rule)) → (rules : List Rule) (events : List Event) → AllByRecursion P (all_implied rules events)
+All-implied P each rules = All-flat_map P (λ event. flat_map (implied event) rules) (λ event. All-flat_map P (implied event) (of_rule event) rules)
   where
-    by : (event : Event) (rule : Rule) (holds : Bool) → AllByRecursion IsImplicit (if holds then entry event rule ∷ [] else [])
-    by event rule true = (λ number same. absurd (cc), tt)
+    by : (event : Event) (rule : Rule) (holds : Bool) → AllByRecursion P (if holds then entry event rule ∷ [] else [])
+    by event rule true = (each event rule, tt)
     by event rule false = tt
 
-    of_rule : (event : Event) (rule : Rule) → AllByRecursion IsImplicit (implied event rule)
+    of_rule : (event : Event) (rule : Rule) → AllByRecursion P (implied event rule)
     of_rule event rule = by event rule (same_name event.stream.namespace rule.namespace && not (token_lt event.token (batch_token rule.from)))
+
+-- no explicit name is made
+all-implicit : (rules : List Rule) (events : List Event) → AllByRecursion IsImplicit (all_implied rules events)
+all-implicit = All-implied IsImplicit (λ event rule number same. absurd (cc))
 
 numbered-added : (names entries : Names) (most : ℕ) → AllByRecursion IsImplicit entries → IsNumbered names most → IsNumbered (fold added names entries) most
 numbered-added names [] most implicit numbered = numbered

@@ -1,12 +1,9 @@
 -- A table with more subscriptions, which have handled nothing.
-use Rattle.subscription_table.proofs.Prelude.{new_state, SubState, PlainRegistry, add, add_with, next_number, registered, truncated, tag_of, ranked-insert, open_leaf, pushed, PlainResumes, AreRanked, IsFirstPast, Leaf, ◌≡◌, ◌∙◌, ℕ, ◌+◌, ◌-◌, ◌^◌, ◌<◌, ◌≤◌, ◌⊎◌, inl, inr, Bool, true, false, List, [], ◌∷◌, ◌++◌, length, get_or, map, take, drop, None, Some, if◌then◌else◌, refl, sym, ap, subst, arith, All, length-append, cases_lt, append-nil, append_assoc, drop_at, get_or-append_right, get_or-map, get_or_append_left, length-map, map-append, take-append-le, take_at, fold, sub_order, same_sub, sub_lt, value_at, StreamId, Token}
-use Rattle.std.specs.Prelude.{is_some, nat_lt, ◌&&◌, not}
-use Rattle.std.specs.List.{flat_map}
-use Rattle.std.proofs.lemmas.List.Elements.{All-append, All-cons, All-from_recursion, All-head, All-nil, All-tail}
+use Rattle.subscription_table.proofs.Prelude.{new_state, SubState, PlainRegistry, add, add_with, next_number, registered, truncated, tag_of, ranked-insert, open_leaf, pushed, PlainResumes, AreRanked, IsFirstPast, Leaf, ◌≡◌, ◌∙◌, ℕ, ◌+◌, ◌-◌, ◌^◌, ◌<◌, ◌≤◌, ◌⊎◌, inl, inr, Bool, true, false, List, [], ◌∷◌, ◌++◌, length, get_or, map, take, drop, None, Some, if◌then◌else◌, refl, sym, ap, subst, arith, length-append, cases_lt, append-nil, append_assoc, drop_at, get_or-append_right, get_or-map, get_or_append_left, length-map, map-append, take-append-le, take_at, fold, sub_order, same_sub, sub_lt, value_at, StreamId, Token}
+use Rattle.std.specs.Prelude.{is_some, nat_lt}
+use Rattle.std.specs.List.{AllByRecursion}
+use Rattle.std.proofs.lemmas.List.Elements.{All-from_recursion}
 use Rattle.std.proofs.lemmas.Map.{none_passes_from_lookup}
-use Rattle.stream_ident.specs.Event.{batch_token}
-use Rattle.stream_ident.specs.Name.{same_name}
-use Rattle.stream_ident.specs.Token.{token_lt}
 use Rattle.stream_ident.specs.declared.event.Event.{Event}
 use Rattle.stream_ident.specs.declared.ident.GrainId.{GrainId}
 use Rattle.stream_ident.specs.declared.ident.SubName.TheVariants as name
@@ -15,7 +12,9 @@ use Rattle.pubsub_registry.specs.declared.told.Added.{Added}
 use Rattle.pubsub_registry.specs.declared.told.Implied.{Implied}
 use Rattle.pubsub_registry.specs.declared.told.Implied.TheVariants as implied_told
 use Rattle.stream_ident.specs.Implying.{added}
-use Rattle.pubsub_registry.specs.Implying.{all_implied, implied, imply, names_with}
+use Rattle.stream_ident.proofs.WordLemmas.{All-at}
+use Rattle.pubsub_registry.proofs.ImpliedSound.{All-implied}
+use Rattle.pubsub_registry.specs.Implying.{all_implied, imply, names_with}
 use Rattle.subscription_table.specs.Rows.{new_leaves, AreAllNamed, AreNamed}
 use Rattle.subscription_table.specs.Standing.{kept_of, name_of, tags_of, AreRecords, IsTable}
 use Rattle.subscription_table.specs.Table.{PlainTable, new_states, no_entry, no_state}
@@ -26,7 +25,7 @@ abbrev pub IsOpen : Entry → Type 0
 IsOpen entry = entry.1.is_open ≡ true
 
 abbrev pub AreOpen : Names → Type 0
-AreOpen names = All IsOpen names
+AreOpen names = AllByRecursion IsOpen names
 
 -- each name and its state, with those of more names
 each-grown : (names more : Names) (states : List SubState) (position : ℕ) → length states ≡ length names
@@ -67,7 +66,7 @@ module _ {t : PlainTable} {tags : List ℕ} {kept : PlainResumes} (is : IsTable 
       records-of (record { registry = r; states = t.states ++ new_states position more })
       (omega (arith, length-append t.states (new_states position more), length-map more (λ (entry : Entry). new_state entry.1.start position), ap length names, length-append t.registry.names more, is.records.long))
       (λ i low. subst (λ (all : Names). Stands (get_or all i no_entry) (get_or (t.states ++ new_states position more) i no_state)) (sym names)
-      (each-grown t.registry.names more t.states position is.records.long (stands-at is.records) (λ j there. record { start = refl; openness = sym (opened j no_entry there); cursor = room; resume = room }) i low))
+      (each-grown t.registry.names more t.states position is.records.long (stands-at is.records) (λ j there. record { start = refl; openness = sym (All-at IsOpen more j no_entry opened there); cursor = room; resume = room }) i low))
 
   -- the rows with those of the new names
   table-grown : {states : List SubState} {new_tags : List ℕ} {new : PlainResumes} → states ≡ t.states ++ new_states position more → new_tags ≡ tags ++ tags_of more → new.leaves ≡ kept.leaves ++ new_leaves position more
@@ -83,44 +82,28 @@ module _ {t : PlainTable} {tags : List ℕ} {kept : PlainResumes} (is : IsTable 
   }
 
 nothing-grown : (names : Names) → IsGrown names names
-nothing-grown names = record { more = []; is = sym (append-nil names); opened = All-nil IsOpen }
+nothing-grown names = record { more = []; is = sym (append-nil names); opened = tt }
 
 one-grown : (entry : Entry) (old new : Names) → entry.1.is_open ≡ true → IsGrown (old ++ entry ∷ []) new → IsGrown old new
 one-grown entry old new first rest = record {
   more = entry ∷ rest.more;
   is = rest.is ∙ append_assoc old (entry ∷ []) rest.more;
-  opened = All-cons IsOpen entry rest.more first rest.opened;
+  opened = (first, rest.opened);
 }
 
 names-grown : (entries old : Names) → AreOpen entries → IsGrown old (fold added old entries)
 names-grown [] old opened = nothing-grown old
 names-grown (entry ∷ entries) old opened =
-    let rest = All-tail IsOpen entry entries opened in
-    by (is_some (value_at same_sub entry.0 old)) (names-grown entries old rest)
-    (one-grown entry old (fold added (old ++ entry ∷ []) entries) (All-head IsOpen entry entries opened) (names-grown entries (old ++ entry ∷ []) rest))
+    by (is_some (value_at same_sub entry.0 old)) (names-grown entries old opened.1)
+    (one-grown entry old (fold added (old ++ entry ∷ []) entries) opened.0 (names-grown entries (old ++ entry ∷ []) opened.1))
   where
     by : (b : Bool) → IsGrown old (fold added old entries) → IsGrown old (fold added (old ++ entry ∷ []) entries) → IsGrown old (fold added (if b then old else old ++ entry ∷ []) entries)
     by true there new = there
     by false there new = new
 
 -- rules make open subscriptions
-implied-open : (event : Event) (rule : Rule) → AreOpen (implied event rule)
-implied-open event rule =
-    by (same_name event.stream.namespace rule.namespace && not (token_lt event.token (batch_token rule.from)))
-    (name.Implicit rule.kind event.stream, registered event.stream (record { kind = rule.kind; key = event.stream.key }) (batch_token rule.from)) refl
-  where
-    by : (b : Bool) (entry : Entry) → entry.1.is_open ≡ true → AreOpen (if b then entry ∷ [] else [])
-    by true entry opened = All-cons IsOpen entry [] opened (All-nil IsOpen)
-    by false entry opened = All-nil IsOpen
-
-each-open : {A : Type 0} (make : A → Names) → ((x : A) → AreOpen (make x)) → (xs : List A) → AreOpen (flat_map make xs)
-each-open make opened [] = All-nil IsOpen
-each-open make opened (x ∷ xs) = All-append IsOpen (make x) (flat_map make xs) (opened x) (each-open make opened xs)
-
 pub implied-grown : (rules : List Rule) (names : Names) (events : List Event) → IsGrown names (names_with rules names events)
-implied-grown rules names events =
-    names-grown (all_implied rules events) names
-    (each-open (λ event. flat_map (implied event) rules) (λ event. each-open (implied event) (implied-open event) rules) events)
+implied-grown rules names events = names-grown (all_implied rules events) names (All-implied IsOpen (λ event rule. refl) rules events)
 
 -- a registry that rules added to, which has its old names in front
 pub record Implies (old new : PlainRegistry) : Type 0 where
@@ -170,6 +153,6 @@ module _ {t : PlainTable} {tags : List ℕ} {r : PlainResumes} (is : IsTable t t
       let entry : Entry = (name.Explicit number, registered stream grain start) in
       let names : new.names ≡ t.registry.names ++ entry ∷ [] =
       ap (λ (out : PlainRegistry × Added). out.0.names) (adds ∙ ap {B = PlainRegistry × Added} (add_with t.registry stream grain start) given) in
-      table-grown is new (entry ∷ []) names (All-cons IsOpen entry [] refl (All-nil IsOpen)) position room stated tagged (ap (λ (r : PlainResumes). r.leaves) pushes)
+      table-grown is new (entry ∷ []) names (refl, tt) position room stated tagged (ap (λ (r : PlainResumes). r.leaves) pushes)
       (rw (pushes, names) (ranked-insert t.registry.names r.order rank entry is.ranked.long is.ranked.ranking first.within name_of sub_lt same_sub sub_order is.ranked first
       (λ d i inside. All-from_recursion (λ (e : Entry). same_sub entry.0 e.0 ≡ false) t.registry.names (none_passes_from_lookup (same_sub entry.0) t.registry.names none) i d inside)))
