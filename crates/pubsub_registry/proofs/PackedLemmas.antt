@@ -2,10 +2,11 @@
 use Rattle.pubsub_registry.proofs.Prelude.{◌≡◌, ◌∙◌, ℕ, zero, suc, ◌<◌, ◌≤◌, ◌^◌, Bool, true, false, ◌==◌, List, [], ◌∷◌, ◌++◌, length, get_or, map, Option, Some, None, if◌then◌else◌, insert, refl, sym, ap, subst, arith, true≢false, and_from, and_parts, cases_order, eqb-true, eq-eqb, false_from_ne_true, ltb-false, append-nil, get_or_append_left, length-map, map-append, fails_before_first, get_or_from_slice_get, slice_get-get_or, slice_get-map, slice_get_within, AllByRecursion, position_or_len, keys_of, lookup, values_of, option_map, ◌⊎◌, ⊎_elim, is_some, none_from_is_some, slice_get, position, nat_lt, Result, Ok, Err, IfNone, OnErr, OnOk, same_grain-refl, same_stream-refl, same_sub-equal, same_sub-refl, same_grain, same_stream, same_sub, change_at, changed_value, first_at, StreamId, SubName}
 use Rattle.std.specs.List.{IsDistinct}
 use Rattle.std.specs.declared.vec.Vec.{Vec}
-use Rattle.std.proofs.lemmas.List.{length-append}
+use Rattle.std.proofs.lemmas.List.{length-append, map-id}
 use Rattle.std.proofs.lemmas.Map.Entries.{length-keys_of}
 use Rattle.std.proofs.lemmas.Map.Keys.{apart_from_distinct}
 use Rattle.std.proofs.lemmas.List.Quantifiers.{position-Some}
+use Rattle.std.proofs.lemmas.Simd.{map-map}
 use Rattle.indexmap.specs.IndexMap.{IndexMap, set_value_at}
 use Rattle.stream_ident.specs.declared.ident.GrainId.{GrainId}
 use Rattle.stream_ident.specs.declared.ident.SubName.TheVariants as name
@@ -23,6 +24,7 @@ use Rattle.pubsub_registry.specs.declared.packed.Key.{Key}
 use Rattle.pubsub_registry.specs.declared.packed.Key.TheVariants.{Explicit, Implicit}
 use Rattle.pubsub_registry.specs.declared.packed.Row.{Row}
 use Rattle.pubsub_registry.specs.declared.registration.Registration.{Registration}
+use Rattle.pubsub_registry.proofs.Elements.{slice_get-last}
 use Rattle.pubsub_registry.proofs.Entries.{Names, place_in, placed-valued, stands-placed}
 use Rattle.pubsub_registry.proofs.IndexLemmas.{indexed-closed, indexed-push, indexed-same}
 
@@ -65,11 +67,8 @@ module _ {K V : Type 0} where
 
   -- one is the last
   pub last-key : (old new : List (K × V)) (key : K) (value : V) → new ≡ old ++ (key, value) ∷ [] → slice_get (keys_of new) (length old) ≡ Some key
-  last-key old new key value is = ap (λ (entries : List (K × V)). slice_get (keys_of entries) (length old)) is ∙ last old
-    where
-      last : (old : List (K × V)) → slice_get (keys_of (old ++ (key, value) ∷ [])) (length old) ≡ Some key
-      last [] = refl
-      last (entry ∷ old) = last old
+  last-key old new key value is =
+      key-slice new (length old) (key, value) (ap (λ (entries : List (K × V)). slice_get entries (length old)) is ∙ slice_get-last old (key, value))
 
 -- the values where there is a row of none for each
 pub values-grown : {K V H : Type 0} (test : K → Bool) (row : Vec V H) (old new : List (K × Vec V H)) → row.items ≡ [] → IsGrown row old new → values_in (lookup test new) ≡ values_in (lookup test old)
@@ -94,11 +93,7 @@ IsFront {X} old new = (more : List X) × (new ≡ old ++ more)
 
 front-keys : {K V : Type 0} (value : V) (old new : List (K × V)) → IsGrown value old new → IsFront (keys_of old) (keys_of new)
 front-keys {K} {V} value old new grown =
-    (grown.more, ap keys_of grown.is ∙ map-append (λ (entry : K × V). entry.0) old (map (λ (key : K). (key, value)) grown.more) ∙ ap (λ (keys : List K). keys_of old ++ keys) (own grown.more))
-  where
-    own : (keys : List K) → keys_of (map (λ (key : K). (key, value)) keys) ≡ keys
-    own [] = refl
-    own (key ∷ keys) = ap (λ (rest : List K). key ∷ rest) (own keys)
+    (grown.more, ap keys_of grown.is ∙ map-append (λ (entry : K × V). entry.0) old (map (λ (key : K). (key, value)) grown.more) ∙ ap (λ (keys : List K). keys_of old ++ keys) (map-map (λ (entry : K × V). entry.0) (λ (key : K). (key, value)) grown.more ∙ map-id grown.more))
 
 module _ {X : Type 0} (old new : List X) (front : IsFront old new) where
   front-length : length old ≤ length new
@@ -202,16 +197,13 @@ module _ (ids : Ids) where
   stream-read : (n : ℕ) (stream : StreamId) → n < length ids.streams → stream_at ids n ≡ stream → slice_get ids.streams n ≡ Some stream
   stream-read n stream within is = slice_get-get_or ids.streams n no_entry.1.stream within ∙ ap Some is
 
-  grain-read : (n : ℕ) (grain : GrainId) → n < length ids.grains → grain_at ids n ≡ grain → slice_get ids.grains n ≡ Some grain
-  grain-read n grain within is = slice_get-get_or ids.grains n no_entry.1.grain within ∙ ap Some is
-
   -- the grain of an implicit name
   grain-named : (g n : ℕ) (kind : List ℕ) (stream : StreamId) → IsKeyWithin ids (Implicit g n) → name_by ids (Implicit g n) ≡ name.Implicit kind stream → slice_get ids.grains g ≡ Some (record { kind = kind; key = stream.key })
   grain-named g n kind stream within same =
       let kinds : (grain_at ids g).kind ≡ kind = ap kind_in same in
       let keys : (grain_at ids g).key ≡ stream.key = within.2 ∙ ap (λ (s : StreamId). s.key) (ap stream_in same) in
       let whole : grain_at ids g ≡ record { kind = kind; key = stream.key } = λ i. record { kind = kinds i; key = keys i } in
-      grain-read g (record { kind = kind; key = stream.key }) within.0 whole
+      slice_get-get_or ids.grains g no_entry.1.grain within.0 ∙ ap Some whole
 
   -- the key of an implicit name
   pub name-made : (kind : List ℕ) (stream : StreamId) (g n : ℕ) → slice_get ids.grains g ≡ Some (record { kind = kind; key = stream.key }) → slice_get ids.streams n ≡ Some stream
