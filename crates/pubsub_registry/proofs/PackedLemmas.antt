@@ -371,21 +371,25 @@ packed-grown by_stream new grains more rows row unit empty grown grown_too strea
 -- ---- one more
 
 -- its row is behind the others, and its number is in the row of its stream
-pub packed-push : {H S W T : Type 0} (by_stream new : IndexMap StreamId (Vec ℕ H) S) (grains : IndexMap GrainId W T) (rows more : Rows) (key : Key) (row : Row) (s : SubName) (registration : Registration) (at : ℕ)
-    → IsPacked by_stream grains rows → IsKeyWithin (ids_in by_stream grains) key × (name_by (ids_in by_stream grains) key ≡ s)
-    → IsRowWithin (ids_in by_stream grains) row × (registration_by (ids_in by_stream grains) row ≡ registration) → slice_get (keys_of by_stream.entries) row.stream ≡ Some registration.stream
-    → IsPlaceOf (names_at (keys_of (entries_by (ids_in by_stream grains) rows)) (row_of same_stream by_stream registration.stream)) s at
+pub packed-push : {H S W T : Type 0} (by_stream new : IndexMap StreamId (Vec ℕ H) S) (grains : IndexMap GrainId W T) (rows more : Rows) (key : Key) (row : Row) (s : SubName) (registration : Registration) (at : ℕ) (now : Names) (numbers : List ℕ)
+    → IsPacked by_stream grains rows → entries_by (ids_in by_stream grains) rows ≡ now → key ≡ key_of s row.grain row.stream → IsNameOf registration s
+    → slice_get (keys_of grains.entries) row.grain ≡ Some registration.grain → slice_get (keys_of by_stream.entries) row.stream ≡ Some registration.stream
+    → IsRowWithin (ids_in by_stream grains) row × (registration_by (ids_in by_stream grains) row ≡ registration)
+    → numbers ≡ row_of same_stream by_stream registration.stream → IsPlaceOf (names_at (keys_of now) numbers) s at
     → (more ≡ rows ++ (key, row) ∷ []) × ChangesRow same_stream row.stream (λ numbers. insert numbers at (length rows)) by_stream new
-    → IsPacked new grains more × (entries_by (ids_in new grains) more ≡ entries_by (ids_in by_stream grains) rows ++ (s, registration) ∷ [])
-packed-push by_stream new grains rows more key row s registration at is named own there place puts =
+    → IsPacked new grains more × (entries_by (ids_in new grains) more ≡ now ++ (s, registration) ∷ [])
+packed-push by_stream new grains rows more key row s registration at now numbers is is_now given of_name of_grain there own counted place puts =
     let ids = ids_in by_stream grains in
+    let named = key-made ids s registration key row.grain row.stream given of_name of_grain there in
+    let same : names_at (keys_of now) numbers ≡ names_at (keys_of (entries_by ids rows)) (row_of same_stream by_stream registration.stream) = λ i. names_at (keys_of (sym is_now i)) (counted i) in
     let pushed : entries_by ids (rows ++ (key, row) ∷ []) ≡ entries_by ids rows ++ (s, registration) ∷ [] =
     map-append (entry_by ids) rows ((key, row) ∷ []) ∙ (λ i. entries_by ids rows ++ (named.1 i, own.1 i) ∷ []) in
     let all = packed-rows by_stream new grains rows (rows ++ (key, row) ∷ []) puts.1.0 is (All-push (IsEntryWithin ids) rows (key, row) is.within (named.0, own.0))
     (subst (λ (names : Names). IsIndexed names (row_of same_stream new)) (sym pushed)
-    (indexed-push (entries_by ids rows) (row_of same_stream by_stream) (row_of same_stream new) s registration (length rows) (sym (length-map rows (entry_by ids))) at is.indexed place
-    (λ other. puts.1.1 registration.stream other there))) in
-    subst (λ (more : Rows). IsPacked new grains more × (entries_by (ids_in new grains) more ≡ entries_by ids rows ++ (s, registration) ∷ [])) (sym puts.0) (all.0, all.1 ∙ pushed)
+    (indexed-push (entries_by ids rows) (row_of same_stream by_stream) (row_of same_stream new) s registration (length rows) (sym (length-map rows (entry_by ids))) at is.indexed
+    (subst (λ (subs : List SubName). IsPlaceOf subs s at) same place) (λ other. puts.1.1 registration.stream other there))) in
+    subst (λ (more : Rows). IsPacked new grains more × (entries_by (ids_in new grains) more ≡ now ++ (s, registration) ∷ [])) (sym puts.0)
+    (all.0, all.1 ∙ pushed ∙ ap (λ (names : Names). names ++ (s, registration) ∷ []) is_now)
 
 -- what it is where nothing was changed
 pub packed-same : {H S W T : Type 0} (by_stream new : IndexMap StreamId (Vec ℕ H) S) (grains : IndexMap GrainId W T) (rows left : Rows) → IsPacked by_stream grains rows → (left ≡ rows) × KeepsRows same_stream by_stream new

@@ -1,8 +1,7 @@
-use Rattle.pubsub_registry.proofs.Prelude.{◌≡◌, ◌∙◌, ◌∷◌, ◌++◌, [], ℕ, None, Contains, get_or, length, sym, ap, subst, arith, length-map, same_Some, keys_of, lookup, same_stream, same_sub}
+use Rattle.pubsub_registry.proofs.Prelude.{◌≡◌, ◌∙◌, ℕ, None, Contains, get_or, length, sym, ap, subst, arith, length-map, same_Some, keys_of, lookup, same_stream, same_sub}
 use Rattle.std.proofs.lemmas.Result.{on_err_weaker, on_ok_weaker}
 use Rattle.stream_ident.specs.declared.ident.SubName.TheVariants as name
 use Rattle.pubsub_registry.specs.Ascending.{IsAscending, IsPlaceOf}
-use Rattle.pubsub_registry.specs.Index.{names_at}
 use Rattle.pubsub_registry.specs.Packed.{ids_in}
 use Rattle.pubsub_registry.specs.Rows.{row_of}
 use Rattle.pubsub_registry.proofs.Entries.{Names}
@@ -51,31 +50,20 @@ put_row-requires-clause-at c = λ key at_key.
 
 pub invariant_of-self-2 : goal.invariant_of-self-2
 invariant_of-self-2 c =
-    let by_stream = c.row_for.new.by_stream in
-    let grains = c.row_for.new.grains in
-    let rows = c.self.inside.rows.entries in
-    let mid = c.row_for.ensures.packed rows c.self.invariant in
-    let names = sym (mid.1 ∙ c.self.view_is) in
-    let numbers = c.row-numbers.ensures ∙ sym (c.row_for.ensures.rows c.args.registration.now.stream) in
-    let named = key-made (ids_in by_stream grains) c.args.sub.now c.args.registration.now c.key_of-key.result c.in_ok-row.row.grain c.in_ok-row.row.stream c.key_of-key.ensures c.requires.own c.in_ok-row.ensures.grain c.in_ok-row.ensures.stream in
-    let place = subst (λ names. IsPlaceOf names c.args.sub.now c.place_of-at.result) (c.new.ensures ∙ (λ i. names_at (keys_of (names i)) (numbers i))) c.place_of-at.ensures in
+    let mid = c.row_for.ensures.packed c.self.inside.rows.entries c.self.invariant in
+    let place = subst (λ names. IsPlaceOf names c.args.sub.now c.place_of-at.result) c.new.ensures c.place_of-at.ensures in
     if-either c.put_row.result c.put_row.ensures.ok c.put_row.ensures.err
-    (λ puts. (packed-push by_stream c.put_row.new.by_stream grains rows c.put_row.new.rows.entries c.key_of-key.result c.in_ok-row.row c.args.sub.now c.args.registration.now c.place_of-at.result mid.0 named c.in_ok-row.ensures.own c.in_ok-row.ensures.stream place puts).0)
-    (λ keeps. (packed-same by_stream c.put_row.new.by_stream grains rows c.put_row.new.rows.entries mid.0 keeps).0)
+    (λ puts. (packed-push c.row_for.new.by_stream c.put_row.new.by_stream c.row_for.new.grains c.self.inside.rows.entries c.put_row.new.rows.entries c.key_of-key.result c.in_ok-row.row c.args.sub.now c.args.registration.now c.place_of-at.result c.args.self.now c.row-numbers.result.now
+    mid.0 (mid.1 ∙ c.self.view_is) c.key_of-key.ensures c.requires.own c.in_ok-row.ensures.grain c.in_ok-row.ensures.stream c.in_ok-row.ensures.own (c.row-numbers.ensures ∙ sym (c.row_for.ensures.rows c.args.registration.now.stream)) place puts).0)
+    (λ keeps. (packed-same c.row_for.new.by_stream c.put_row.new.by_stream c.row_for.new.grains c.self.inside.rows.entries c.put_row.new.rows.entries mid.0 keeps).0)
 
 pub returns-clause-ok : goal.returns-clause-ok
 returns-clause-ok c =
-    let by_stream = c.row_for.new.by_stream in
-    let grains = c.row_for.new.grains in
-    let rows = c.self.inside.rows.entries in
-    let mid = c.row_for.ensures.packed rows c.self.invariant in
-    let names = sym (mid.1 ∙ c.self.view_is) in
-    let numbers = c.row-numbers.ensures ∙ sym (c.row_for.ensures.rows c.args.registration.now.stream) in
-    let named = key-made (ids_in by_stream grains) c.args.sub.now c.args.registration.now c.key_of-key.result c.in_ok-row.row.grain c.in_ok-row.row.stream c.key_of-key.ensures c.requires.own c.in_ok-row.ensures.grain c.in_ok-row.ensures.stream in
-    let place = subst (λ names. IsPlaceOf names c.args.sub.now c.place_of-at.result) (c.new.ensures ∙ (λ i. names_at (keys_of (names i)) (numbers i))) c.place_of-at.ensures in
+    let mid = c.row_for.ensures.packed c.self.inside.rows.entries c.self.invariant in
+    let place = subst (λ names. IsPlaceOf names c.args.sub.now c.place_of-at.result) c.new.ensures c.place_of-at.ensures in
     on_ok_weaker c.put_row.result
-    (λ puts. (packed-push by_stream c.put_row.new.by_stream grains rows c.put_row.new.rows.entries c.key_of-key.result c.in_ok-row.row c.args.sub.now c.args.registration.now c.place_of-at.result mid.0 named c.in_ok-row.ensures.own c.in_ok-row.ensures.stream place puts).1
-    ∙ ap (λ (names : Names). names ++ (c.args.sub.now, c.args.registration.now) ∷ []) (sym names))
+    (λ puts. (packed-push c.row_for.new.by_stream c.put_row.new.by_stream c.row_for.new.grains c.self.inside.rows.entries c.put_row.new.rows.entries c.key_of-key.result c.in_ok-row.row c.args.sub.now c.args.registration.now c.place_of-at.result c.args.self.now c.row-numbers.result.now
+    mid.0 (mid.1 ∙ c.self.view_is) c.key_of-key.ensures c.requires.own c.in_ok-row.ensures.grain c.in_ok-row.ensures.stream c.in_ok-row.ensures.own (c.row-numbers.ensures ∙ sym (c.row_for.ensures.rows c.args.registration.now.stream)) place puts).1)
     c.put_row.ensures.ok
 
 pub returns-clause-err : goal.returns-clause-err
