@@ -34,25 +34,16 @@ each-grown : (names more : Names) (states : List SubState) (position : ℕ) → 
     → (i : ℕ) → i < length (states ++ new_states position more) → Stands (get_or (names ++ more) i no_entry) (get_or (states ++ new_states position more) i no_state)
 each-grown names more states position long old new i within = by (cases_lt i (length states))
   where
-    entry-left : i < length states → get_or (names ++ more) i no_entry ≡ get_or names i no_entry
-    entry-left left = get_or_append_left names more no_entry i (omega arith)
-
-    entry-right : length states ≤ i → get_or (names ++ more) i no_entry ≡ get_or more (i - length states) no_entry
-    entry-right right = get_or-append_right names more (length states) i no_entry (sym long) right
-
-    state-right : length states ≤ i → i - length states < length more → get_or (states ++ new_states position more) i no_state ≡ new_state (get_or more (i - length states) no_entry).1.start position
-    state-right right there =
-        get_or-append_right states (new_states position more) (length states) i no_state refl right
-        ∙ get_or-map (λ (entry : Entry). new_state entry.1.start position) more (i - length states) no_entry no_state there
-
     by : (i < length states) ⊎ (length states ≤ i) → Stands (get_or (names ++ more) i no_entry) (get_or (states ++ new_states position more) i no_state)
     by (inl left) =
-        subst (λ (e : Entry). Stands e (get_or (states ++ new_states position more) i no_state)) (sym (entry-left left))
+        subst (λ (e : Entry). Stands e (get_or (states ++ new_states position more) i no_state)) (sym (get_or_append_left names more no_entry i (omega arith)))
         (subst (Stands (get_or names i no_entry)) (sym (get_or_append_left states (new_states position more) no_state i left)) (old i left))
     by (inr right) =
         let there : i - length states < length more = omega (arith, length-append states (new_states position more), length-map more (λ (entry : Entry). new_state entry.1.start position)) in
-        subst (λ (e : Entry). Stands e (get_or (states ++ new_states position more) i no_state)) (sym (entry-right right))
-        (subst (Stands (get_or more (i - length states) no_entry)) (sym (state-right right there)) (new (i - length states) there))
+        subst (λ (e : Entry). Stands e (get_or (states ++ new_states position more) i no_state)) (sym (get_or-append_right names more (length states) i no_entry (sym long) right))
+        (subst (Stands (get_or more (i - length states) no_entry))
+        (sym (get_or-append_right states (new_states position more) (length states) i no_state refl right ∙ get_or-map (λ (entry : Entry). new_state entry.1.start position) more (i - length states) no_entry no_state there))
+        (new (i - length states) there))
 
 -- names with open ones behind them
 pub record IsGrown (old new : Names) : Type 0 where
