@@ -53,13 +53,6 @@ change_at-set [] number = refl
 change_at-set (entry ∷ entries) zero = refl
 change_at-set (entry ∷ entries) (suc number) = ap (λ (rest : Names). entry ∷ rest) (change_at-set entries number)
 
--- so that the registration of a name is that with its number
-closed-at : (names : Names) (number : ℕ) → number < length names → AreUnique names
-    → changed_value same_sub (get_or names number no_entry).0 closed_registration names ≡ set names number ((get_or names number no_entry).0, closed_registration (get_or names number no_entry).1)
-closed-at names number within unique =
-    let s : SubName = (get_or names number no_entry).0 in
-    sym (stands-placed s names number (sym (number-there names s number unique within (same_sub-refl s)))).1 ∙ change_at-set names number
-
 module _ {t : PlainTable} {tags : List ℕ} {r : PlainResumes} (is : IsTable t tags r) (number : ℕ) (within : number < length t.registry.names) (unique : AreUnique t.registry.names)
     (new_registry : PlainRegistry) (names-closed : new_registry.names ≡ changed_value same_sub (get_or t.registry.names number no_entry).0 closed_registration t.registry.names) where
   abbrev entry : Entry
@@ -69,7 +62,9 @@ module _ {t : PlainTable} {tags : List ℕ} {r : PlainResumes} (is : IsTable t t
   closed_entry = (entry.0, closed_registration entry.1)
 
   names : new_registry.names ≡ set t.registry.names number closed_entry
-  names = names-closed ∙ closed-at t.registry.names number within unique
+  names =
+      let there = number-there t.registry.names entry.0 number unique within (same_sub-refl entry.0) in
+      names-closed ∙ sym (stands-placed entry.0 t.registry.names number (sym there)).1 ∙ change_at-set t.registry.names number
 
   pub table-closed : {now : SubState} → now ≡ closed (state_at t number) → {new : PlainResumes} → new ≡ with_leaf number (kept_of now) r → IsTable (record { registry = new_registry; states = set t.states number now }) tags new
   table-closed {now} closes {new} set_to =
