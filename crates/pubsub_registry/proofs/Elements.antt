@@ -6,9 +6,6 @@ module _ {X : Type 0} where
   pub Contains-here : (x : X) (xs : List X) (y : X) → x ≡ y → Contains (x ∷ xs) y
   Contains-here x xs y same = (0, omega arith, same)
 
-  pub Contains-later : (x : X) (xs : List X) (y : X) → Contains xs y → Contains (x ∷ xs) y
-  Contains-later x xs y there = Contains-append_right (x ∷ []) xs y there
-
   pub All-insert : (P : X → Type 0) (xs : List X) (at : ℕ) (x : X) → All P xs → P x → All P (insert xs at x)
   All-insert P xs at x all here =
       All-append P (take at xs) (x ∷ drop at xs) (All-take P at xs all) (All-cons P x (drop at xs) here (All-drop P at xs all))
@@ -23,7 +20,7 @@ module _ {X : Type 0} where
 
   pub Contains-insert : (xs : List X) (at : ℕ) (x y : X) → Contains xs y → Contains (insert xs at x) y
   Contains-insert xs at x y there =
-      ⊎_elim (Contains-append_left (take at xs) (x ∷ drop at xs) y) (λ (behind : Contains (drop at xs) y). Contains-append_right (take at xs) (x ∷ drop at xs) y (Contains-later x (drop at xs) y behind))
+      ⊎_elim (Contains-append_left (take at xs) (x ∷ drop at xs) y) (λ (behind : Contains (drop at xs) y). Contains-append_right (take at xs) (x ∷ drop at xs) y (Contains-append_right (x ∷ []) (drop at xs) y behind))
       (Contains-append_cases (take at xs) (drop at xs) y (subst (λ l. Contains l y) (sym (take-append-drop at xs)) there))
 
   pub Contains-insert_cases : (xs : List X) (at : ℕ) (x y : X) → Contains (insert xs at x) y → (x ≡ y) ⊎ Contains xs y
