@@ -13,19 +13,15 @@ use Rattle.pubsub_registry.proofs.RuleLemmas.{on}
 
 -- ---- the front
 
--- without rules there are no new names
-pub no-rules : (names : Names) (events : List Event) → names_with [] names events ≡ names
-no-rules names events = ap (fold added names) (none events)
-  where
-    none : (events : List Event) → all_implied [] events ≡ []
-    none [] = refl
-    none (event ∷ events) = none events
-
--- so nothing is done
+-- without rules nothing is done
 pub nothing-implied : (r : PlainRegistry) (events : List Event) → r.rules ≡ [] → length r.names ≤ r.most_names → ◌≡◌ {A = PlainRegistry × Implied} (r, implied_told.Implied) (imply r events)
 nothing-implied r events none fits =
-    let same : names_with r.rules r.names events ≡ r.names = ap (λ (rules : List Rule). names_with rules r.names events) none ∙ no-rules r.names events in
+    let same : names_with r.rules r.names events ≡ r.names = ap (λ (rules : List Rule). names_with rules r.names events) none ∙ ap (fold added r.names) (nothing events) in
     rw (same, le-ltb r.most_names (length r.names) fits) refl
+  where
+    nothing : (events : List Event) → all_implied [] events ≡ []
+    nothing [] = refl
+    nothing (event ∷ events) = nothing events
 
 -- ---- how many there are
 

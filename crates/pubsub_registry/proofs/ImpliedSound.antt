@@ -24,10 +24,6 @@ All-implied P each rules = All-flat_map P (λ event. flat_map (implied event) ru
     of_rule : (event : Event) (rule : Rule) → AllByRecursion P (implied event rule)
     of_rule event rule = by event rule (same_name event.stream.namespace rule.namespace && not (token_lt event.token (batch_token rule.from)))
 
--- no explicit name is made
-all-implicit : (rules : List Rule) (events : List Event) → AllByRecursion IsImplicit (all_implied rules events)
-all-implicit = All-implied IsImplicit (λ event rule number same. absurd (cc))
-
 numbered-added : (names entries : Names) (most : ℕ) → AllByRecursion IsImplicit entries → IsNumbered names most → IsNumbered (fold added names entries) most
 numbered-added names [] most implicit numbered = numbered
 numbered-added names (made ∷ entries) most implicit numbered = numbered-added (added names made) entries most implicit.1 (by (has made.0 names))
@@ -39,4 +35,4 @@ numbered-added names (made ∷ entries) most implicit numbered = numbered-added 
 pub sound-implied : (r : PlainRegistry) → IsSound r → (events : List Event) (names : Names) → names ≡ names_with r.rules r.names events → length (names_with r.rules r.names events) ≤ r.most_names → IsSound (record r { names = names })
 sound-implied r sound events names is fits =
     subst (λ names. IsSound (record r { names = names })) (sym is)
-    (sound-with r sound (names_with r.rules r.names events) r.explicit fits (numbered-added r.names (all_implied r.rules events) r.explicit (all-implicit r.rules events) sound.numbered))
+    (sound-with r sound (names_with r.rules r.names events) r.explicit fits (numbered-added r.names (all_implied r.rules events) r.explicit (All-implied IsImplicit (λ event rule number same. absurd (cc)) r.rules events) sound.numbered))
