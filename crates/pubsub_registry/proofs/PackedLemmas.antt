@@ -429,3 +429,8 @@ packed-closed by_stream grains rows n row s is found placed =
     let closed = entries-closed ids rows n row found ∙ (stands-placed s (entries_by ids rows) n placed).1 in
     let indexed = indexed-closed (entries_by ids rows) (entries_by ids left) s (row_of same_stream by_stream) closed is.indexed in
     ((packed-rows by_stream by_stream grains rows left refl is (within-closed ids rows n row found is.within) indexed).0, closed)
+
+pub within-at : (ids : Ids) (rows : Rows) (n : ℕ) (entry : Key × Row) → slice_get rows n ≡ Some entry → AllByRecursion (IsEntryWithin ids) rows → IsEntryWithin ids entry
+within-at ids [] n entry found within = absurd (cc)
+within-at ids (first ∷ rows) zero entry found within = let same : first ≡ entry = cc in subst (IsEntryWithin ids) same within.0
+within-at ids (first ∷ rows) (suc n) entry found within = within-at ids rows n entry found within.1

@@ -1,6 +1,6 @@
-use Rattle.pubsub_registry.proofs.Prelude.{◌∙◌, sym, ap, get_or_from_slice_get, slice_get-map, slice_get_within, subst, option_map}
-use Rattle.stream_ident.proofs.WordLemmas.{All-at}
-use Rattle.pubsub_registry.specs.Packed.{entry_by, IsEntryWithin}
+use Rattle.pubsub_registry.proofs.Prelude.{◌∙◌, sym, ap, slice_get-map, option_map}
+use Rattle.pubsub_registry.specs.Packed.{entry_by}
+use Rattle.pubsub_registry.proofs.PackedLemmas.{within-at}
 use Rattle.pubsub_registry.proofs.packed.entry_at.Goals as goal
 
 pub returns-clause-entry : goal.returns-clause-entry
@@ -9,8 +9,4 @@ returns-clause-entry c = λ ids.
     ∙ ap (option_map (entry_by ids)) (sym c.get_index.ensures.entry ∙ ap (option_map _) c.unwrap.ensures)
 
 pub returns-clause-within : goal.returns-clause-within
-returns-clause-within c = λ ids all.
-    let rows = c.args.rows.now.entries in
-    let entry = (c.unwrap.result.0.now, c.unwrap.result.1.now) in
-    let at = sym c.get_index.ensures.entry ∙ ap (option_map _) c.unwrap.ensures in
-    subst (IsEntryWithin ids) (get_or_from_slice_get rows c.args.index entry entry at) (All-at (IsEntryWithin ids) rows c.args.index entry all (slice_get_within rows c.args.index entry at))
+returns-clause-within c = λ ids. within-at ids _ _ _ (sym c.get_index.ensures.entry ∙ ap (option_map _) c.unwrap.ensures)
