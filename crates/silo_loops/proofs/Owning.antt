@@ -106,10 +106,6 @@ module _ {S O R : Type 0} (reply : S → O → R) (after : S → O → S) where
       let added = adds-none test p op result q none calls in
       past-before test mark p q added.0 (calls-number p op result q calls) added.1 added.2 h
 
-  pub past-before-refused : (test : O → Bool) (mark : ℕ) (p : PassView O R S) (op : O) (e : Refusal) (q : PassView O R S) → CallsBy reply after p op (Err e) q → HasOwnPast test mark q → HasOwnPast test mark p
-  past-before-refused test mark p op e q calls h =
-      past-before test mark p q calls.call.0 (calls-number p op (Err e) q calls) calls.call.1 (owns-foreign test (numbers_of p) calls.call.0 calls.call.2) h
-
   -- and the call itself, where it was answered
   pub past-answered : (test : O → Bool) (mark : ℕ) (p : PassView O R S) (op : O) (r : R) (q : PassView O R S) → CallsBy reply after p op (Ok r) q → mark ≤ length p.seen → test op ≡ true → HasOwnPast test mark q
   past-answered test mark p op r q calls below picked =
