@@ -222,10 +222,7 @@ impl<G: Gate, H: QueueHistory> Agent<G, H> {
         if !self.visit.by_hints {
             return None;
         }
-        let hinted = self.doorbell.watch_for_agent(self.silo);
-        if hinted.is_empty() {
-            return None;
-        }
+        let hinted = self.doorbell.watch_for_agent(self.silo)?;
         self.visit.hinted = Some(hinted);
         next_hinted(&self.assigned, &mut self.held, &mut self.visit)
     }

@@ -15,9 +15,6 @@ pub(crate) struct QueueSet {
 }
 
 impl QueueSet {
-    /// No queue below 64.
-    pub(crate) const NONE: QueueSet = QueueSet { bits: 0 };
-
     /// Whether it has the queue.
     pub(crate) fn has(&self, queue: usize) -> bool {
         match bit(queue) {
@@ -99,49 +96,27 @@ impl Desk {
         }
     }
 
-    /// The queues with a hint.
-    pub(crate) fn hinted(&self) -> QueueSet {
-        let mut hinted = QueueSet::NONE;
+    /// The queues with a hint, which may be taken away.
+    pub(crate) fn hinted(&self, takes: bool) -> QueueSet {
+        let mut hinted = QueueSet { bits: 0 };
         for (queue, hint) in self.hints.iter().enumerate() {
-            if hint.load(Ordering::SeqCst) {
+            if hint.load(Ordering::SeqCst) && (!takes || hint.swap(false, Ordering::SeqCst)) {
                 hinted.add(queue);
             }
         }
         hinted
     }
 
-    /// The queues with a hint, which is taken away.
-    pub(crate) fn take(&self) -> QueueSet {
-        let mut hinted = QueueSet::NONE;
-        for (queue, hint) in self.hints.iter().enumerate() {
-            if hint.load(Ordering::SeqCst) && hint.swap(false, Ordering::SeqCst) {
-                hinted.add(queue);
-            }
-        }
-        hinted
-    }
-
-    /// The queues with a hint, which is taken away. It looks for some time, since threads are woken slowly.
-    pub(crate) fn watch(&self) -> QueueSet {
+    /// The queues with a hint, where there are some. It looks for some time, since threads are woken slowly.
+    pub(crate) fn watch(&self, takes: bool) -> Option<QueueSet> {
         for _ in 0..MOST_GLANCES {
-            let hinted = self.take();
+            let hinted = self.hinted(takes);
             if !hinted.is_empty() {
-                return hinted;
+                return Some(hinted);
             }
             thread::yield_now();
         }
-        QueueSet::NONE
-    }
-
-    /// Whether there is a hint. It looks for some time, as [`watch`](Desk::watch) does.
-    pub(crate) fn has_news(&self) -> bool {
-        for _ in 0..MOST_GLANCES {
-            if !self.hinted().is_empty() {
-                return true;
-            }
-            thread::yield_now();
-        }
-        false
+        None
     }
 
     /// Counts one more, and wakes all that wait here.

@@ -314,28 +314,20 @@ impl Doorbell {
         }
     }
 
-    // The hints for a silo's agent, which are taken away. Where there are none it looks for some time.
-    pub(crate) fn watch_for_agent(&self, silo: u8) -> QueueSet {
-        match self.agent(silo) {
-            Some(desk) => desk.watch(),
-            None => QueueSet::NONE,
-        }
+    // The hints for a silo's agent, where there are some, which are taken away. Where there are none it looks for some time.
+    pub(crate) fn watch_for_agent(&self, silo: u8) -> Option<QueueSet> {
+        self.agent(silo)?.watch(true)
     }
 
     // The hints for a silo's workers, where there are some. Where there are none it looks for some time.
     pub(crate) fn watch_for_workers(&self, silo: u8) -> Option<QueueSet> {
-        let desk = self.workers(silo)?;
-        if desk.has_news() {
-            Some(desk.hinted())
-        } else {
-            None
-        }
+        self.workers(silo)?.watch(false)
     }
 
     // Whether there is a hint for a silo's workers.
     pub(crate) fn has_work(&self, silo: u8) -> bool {
         match self.workers(silo) {
-            Some(desk) => !desk.hinted().is_empty(),
+            Some(desk) => !desk.hinted(false).is_empty(),
             None => false,
         }
     }
