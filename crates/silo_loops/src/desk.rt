@@ -63,13 +63,23 @@ pub(crate) struct Desk {
     handled: AtomicU64,
 }
 
-// So many flags that aren't set.
-fn flags(alloc: Global, count: usize) -> Result<Vec<AtomicBool>, AllocError> {
+/// So many flags that aren't set.
+pub(crate) fn flags(alloc: Global, count: usize) -> Result<Vec<AtomicBool>, AllocError> {
     let mut flags = Vec::with_capacity(alloc, count)?;
     for _ in 0..count {
         flags.push(AtomicBool::new(false))?;
     }
     Ok(flags)
+}
+
+/// Sets the flag at this place, or not. It is written only where that changes it, so that threads that only read it
+/// share it.
+pub(crate) fn set(flags: &Vec<AtomicBool>, at: usize, is_set: bool) {
+    if let Some(flag) = flags.get(at)
+        && flag.load(Ordering::SeqCst) != is_set
+    {
+        flag.store(is_set, Ordering::SeqCst);
+    }
 }
 
 impl Desk {
@@ -87,13 +97,9 @@ impl Desk {
         })
     }
 
-    /// Leaves a hint of a queue, or takes it away. It writes only what changes, since loops read it all the time.
+    /// Leaves a hint of a queue, or takes it away.
     pub(crate) fn hint(&self, queue: usize, is_hinted: bool) {
-        if let Some(hint) = self.hints.get(queue)
-            && hint.load(Ordering::SeqCst) != is_hinted
-        {
-            hint.store(is_hinted, Ordering::SeqCst);
-        }
+        set(&self.hints, queue, is_hinted);
     }
 
     /// The queues with a hint, which may be taken away.

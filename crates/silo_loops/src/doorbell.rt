@@ -4,7 +4,7 @@ ghost use Rattle.step_core.specs.Replied.{reply_of};
 ghost use Rattle.silo_loops.specs.Answers.{directory_rings, rings};
 
 use crate::advance::LoopEnd;
-use crate::desk::{Desk, QueueSet};
+use crate::desk::{Desk, QueueSet, flags, set};
 use activation_directory::DirectoryReply;
 use std::alloc::{AllocError, Global};
 use std::sync::atomic::{AtomicBool, AtomicU64, Ordering};
@@ -49,13 +49,9 @@ struct Place {
 impl Place {
     /// A queue on silo 0, none of whose grains was found anywhere.
     fn new(alloc: Global) -> Result<Place, AllocError> {
-        let mut grains = Vec::with_capacity(alloc, usize::from(MOST_SILOS))?;
-        for _ in 0..MOST_SILOS {
-            grains.push(AtomicBool::new(false))?;
-        }
         Ok(Place {
             holder: AtomicU64::new(0),
-            grains,
+            grains: flags(alloc, usize::from(MOST_SILOS))?,
             full: AtomicBool::new(false),
             handled: AtomicU64::new(0),
         })
@@ -383,7 +379,7 @@ impl Doorbell {
     // A grain of the queue was entered on this silo.
     fn entered(&self, queue: usize, silo: u8) {
         if let Some(place) = self.places.get(queue) {
-            set(&place.grains, usize::from(silo));
+            set(&place.grains, usize::from(silo), true);
         }
     }
 
@@ -415,15 +411,6 @@ fn is_set(flags: &Vec<AtomicBool>, at: usize) -> bool {
     match flags.get(at) {
         Some(flag) => flag.load(Ordering::SeqCst),
         None => false,
-    }
-}
-
-// Sets the flag at this place. It is written only where it isn't set, so that threads that only read it share it.
-fn set(flags: &Vec<AtomicBool>, at: usize) {
-    if let Some(flag) = flags.get(at)
-        && !flag.load(Ordering::SeqCst)
-    {
-        flag.store(true, Ordering::SeqCst);
     }
 }
 
