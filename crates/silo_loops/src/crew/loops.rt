@@ -68,17 +68,17 @@ impl<G: Gate, H: QueueHistory, D: DirectoryHistory> Model for SiloLoops<G, H, D>
 fn make_agent<G: Gate, H: QueueHistory>(
     alloc: Global,
     silo: u8,
-    rounds: u64,
-    tools: SiloTools<G>,
+    tools: &SiloTools<G>,
     lines: &mut Vec<Line<G, H>>,
 ) -> Result<AgentLoop<G, H>, AllocError>
     ensures same { OnOk result (lines.new.items ≡ lines.old.items) }
     ensures go_on { GoOn lines.old.items lines.new.items }
     ensures split { IfOk result (λ agent. AllZip IsSplitLine lines.old.items agent.lines) }
-    ensures fresh { IfOk result (λ agent. IsFreshAgent rounds agent × IsAgentAt lines.new.items agent) }
+    ensures fresh { IfOk result (λ agent. IsFreshAgent tools.now.rounds agent × IsAgentAt lines.new.items agent) }
 {
+    let kit = tools.try_clone()?;
     let own = split_lines(alloc, lines)?;
-    match AgentLoop::new(alloc, silo, tools.doorbell, tools.assigned, own, rounds) {
+    match AgentLoop::new(alloc, silo, kit.doorbell, kit.assigned, own, tools.rounds) {
         Ok(agent) => Ok(agent),
         Err(own) => {
             join_lines(lines, own);
@@ -91,8 +91,7 @@ fn make_agent<G: Gate, H: QueueHistory>(
 fn make_worker<G: Gate, H: QueueHistory, D: DirectoryHistory>(
     alloc: Global,
     silo: u8,
-    rounds: u64,
-    tools: SiloTools<G>,
+    tools: &SiloTools<G>,
     lines: &mut Vec<Line<G, H>>,
     directory: &mut DirectoryLine<D>,
 ) -> Result<WorkerLoop<G, H, D>, AllocError>
@@ -101,12 +100,14 @@ fn make_worker<G: Gate, H: QueueHistory, D: DirectoryHistory>(
     ensures go_on { GoOn lines.old.items lines.new.items }
     ensures directory { IsSilent directory.old directory.new }
     ensures split { IfOk result (λ worker. IsSplitWorker lines.old.items directory.old worker) }
-    ensures fresh { IfOk result (λ worker. IsFreshWorker rounds silo worker × IsWorkerAt lines.new.items directory.new worker) }
+    ensures fresh { IfOk result (λ worker. IsFreshWorker tools.now.rounds silo worker × IsWorkerAt lines.new.items directory.new worker) }
 {
+    let rounds = tools.rounds;
+    let kit = tools.try_clone()?;
     let room = TurnRoom::new(alloc)?;
     let own = split_lines(alloc, lines)?;
     match directory.split() {
-        Ok(line) => Ok(WorkerLoop::new(silo, tools.gate, tools.doorbell, own, line, room, rounds)),
+        Ok(line) => Ok(WorkerLoop::new(silo, kit.gate, kit.doorbell, own, line, room, rounds)),
         Err(error) => {
             join_lines(lines, own);
             Err(error)
@@ -149,7 +150,6 @@ fn join_worker<G: Gate, H: QueueHistory, D: DirectoryHistory>(
 fn make_workers<G: Gate, H: QueueHistory, D: DirectoryHistory>(
     alloc: Global,
     silo: u8,
-    rounds: u64,
     tools: &SiloTools<G>,
     lines: &mut Vec<Line<G, H>>,
     directory: &mut DirectoryLine<D>,
@@ -159,13 +159,11 @@ fn make_workers<G: Gate, H: QueueHistory, D: DirectoryHistory>(
     ensures go_on { GoOn lines.old.items lines.new.items }
     ensures directory { IsSilent directory.old directory.new }
     ensures split { IfOk result (λ r. IsSplitWorker lines.old.items directory.old r.0 × IsSplitWorker lines.old.items directory.old r.1) }
-    ensures first { IfOk result (λ r. IsFreshWorker rounds silo r.0 × IsWorkerAt lines.new.items directory.new r.0) }
-    ensures second { IfOk result (λ r. IsFreshWorker rounds silo r.1 × IsWorkerAt lines.new.items directory.new r.1) }
+    ensures first { IfOk result (λ r. IsFreshWorker tools.now.rounds silo r.0 × IsWorkerAt lines.new.items directory.new r.0) }
+    ensures second { IfOk result (λ r. IsFreshWorker tools.now.rounds silo r.1 × IsWorkerAt lines.new.items directory.new r.1) }
 {
-    let first_tools = tools.try_clone()?;
-    let second_tools = tools.try_clone()?;
-    let first = make_worker(alloc, silo, rounds, first_tools, lines, directory)?;
-    match make_worker(alloc, silo, rounds, second_tools, lines, directory) {
+    let first = make_worker(alloc, silo, tools, lines, directory)?;
+    match make_worker(alloc, silo, tools, lines, directory) {
         Ok(second) => Ok((first, second)),
         Err(error) => {
             join_worker(lines, directory, first);
@@ -196,10 +194,8 @@ impl<G: Gate, H: QueueHistory, D: DirectoryHistory> SiloLoops<G, H, D> {
         ensures fresh { IfOk result (λ loops. IsFresh tools.now.rounds silo loops) }
         ensures at { IfOk result (λ loops. IsSiloAt lines.new.items directory.new loops) }
     {
-        let rounds = tools.rounds;
-        let agent_tools = tools.try_clone()?;
-        let (first, second) = make_workers(alloc, silo, rounds, tools, lines, directory)?;
-        match make_agent(alloc, silo, rounds, agent_tools, lines) {
+        let (first, second) = make_workers(alloc, silo, tools, lines, directory)?;
+        match make_agent(alloc, silo, tools, lines) {
             Ok(agent) => Ok(SiloLoops {
                 silo,
                 agent,

@@ -4,6 +4,9 @@ use Rattle.silo_loops.specs.Silos.{IsFreshWorker, IsSplitWorker, IsWorkerAt}
 use Rattle.silo_loops.proofs.Going.{goes-refl, silent-made, silent-refl, silent-same, split-at, split-fresh, split-marked}
 use Rattle.silo_loops.proofs.crew.loops.make_worker.Goals as goal
 
+pub returns-in_err-kit-clause-go_on : goal.returns-in_err-kit-clause-go_on
+returns-in_err-kit-clause-go_on g c = goes-refl c.args.lines.now.items
+
 pub returns-in_err-room-clause-go_on : goal.returns-in_err-room-clause-go_on
 returns-in_err-room-clause-go_on g c = goes-refl c.args.lines.now.items
 
@@ -18,8 +21,11 @@ returns-in-Ok-clause-fresh g c =
     let split = c.in_ok-own.ensures.new in
     let directory = ap (λ w. w.turnstile) c.in-Ok.ensures.new.0 in
     let kept = c.split.ensures.turnstile in
-    subst (λ (w : WorkerView). IsFreshWorker c.args.rounds c.args.silo w × IsWorkerAt c.split_lines.new.lines.items c.split.new.self w) (sym c.new-in-Ok.ensures)
+    subst (λ (w : WorkerView). IsFreshWorker c.args.tools.now.rounds c.args.silo w × IsWorkerAt c.split_lines.new.lines.items c.split.new.self w) (sym c.new-in-Ok.ensures)
     ((refl, split-marked _ _ split, refl, refl, refl), (split-at _ _ _ split c.split_lines.ensures.go_on, directory ∙ sym kept))
+
+pub returns-in_err-kit-clause-directory : goal.returns-in_err-kit-clause-directory
+returns-in_err-kit-clause-directory g c = silent-refl c.args.directory.now
 
 pub returns-in_err-room-clause-directory : goal.returns-in_err-room-clause-directory
 returns-in_err-room-clause-directory g c = silent-refl c.args.directory.now

@@ -1,12 +1,6 @@
 use Rattle.silo_loops.proofs.Prelude.{◌∙◌}
-use Rattle.silo_loops.proofs.Going.{goes-refl, goes-some, goes-trans, silent-refl, silent-trans, split-same, worker-still}
+use Rattle.silo_loops.proofs.Going.{goes-some, goes-trans, silent-trans, split-same, worker-still}
 use Rattle.silo_loops.proofs.crew.loops.make_workers.Goals as goal
-
-pub returns-in_err-first_tools-clause-go_on : goal.returns-in_err-first_tools-clause-go_on
-returns-in_err-first_tools-clause-go_on g c = goes-refl c.args.lines.now.items
-
-pub returns-in_err-second_tools-clause-go_on : goal.returns-in_err-second_tools-clause-go_on
-returns-in_err-second_tools-clause-go_on g c = goes-refl c.args.lines.now.items
 
 pub make_worker-requires-2-clause-some : goal.make_worker-requires-2-clause-some
 make_worker-requires-2-clause-some g c κs within = goes-some _ _ c.make_worker.ensures.go_on c.requires.some
@@ -27,12 +21,6 @@ returns-in-Err-clause-go_on g c = goes-trans _ _ _ (goes-trans _ _ _ c.make_work
 
 pub returns-in-Err-clause-directory : goal.returns-in-Err-clause-directory
 returns-in-Err-clause-directory g c = silent-trans _ _ _ (silent-trans _ _ _ c.make_worker.ensures.directory c.make_worker-2.ensures.directory) c.join_worker.ensures.directory
-
-pub returns-in_err-first_tools-clause-directory : goal.returns-in_err-first_tools-clause-directory
-returns-in_err-first_tools-clause-directory g c = silent-refl c.args.directory.now
-
-pub returns-in_err-second_tools-clause-directory : goal.returns-in_err-second_tools-clause-directory
-returns-in_err-second_tools-clause-directory g c = silent-refl c.args.directory.now
 
 pub returns-in-Ok-clause-directory : goal.returns-in-Ok-clause-directory
 returns-in-Ok-clause-directory g c = silent-trans _ _ _ c.make_worker.ensures.directory c.make_worker-2.ensures.directory

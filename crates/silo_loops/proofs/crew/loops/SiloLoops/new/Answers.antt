@@ -1,11 +1,8 @@
 use Rattle.silo_loops.proofs.Prelude.{◌∙◌, List, subst, AllZip}
 use Rattle.silo_loops.specs.Lines.{LineView}
 use Rattle.silo_loops.specs.Silos.{IsSplitLine}
-use Rattle.silo_loops.proofs.Going.{goes-refl, goes-trans, silent-refl, silent-trans, worker-still}
+use Rattle.silo_loops.proofs.Going.{goes-trans, silent-refl, silent-trans, worker-still}
 use Rattle.silo_loops.proofs.crew.loops.SiloLoops.new.Goals as goal
-
-pub returns-in_err-agent_tools-clause-go_on : goal.returns-in_err-agent_tools-clause-go_on
-returns-in_err-agent_tools-clause-go_on g c = goes-refl c.args.lines.now.items
 
 pub join_worker-requires-after_bounds : goal.join_worker-requires-after_bounds
 join_worker-requires-after_bounds g c κs within =
@@ -33,9 +30,6 @@ returns-in-Err-clause-go_on g c =
 
 pub returns-in-Err-clause-directory : goal.returns-in-Err-clause-directory
 returns-in-Err-clause-directory g c = silent-trans _ _ _ (silent-trans _ _ _ c.make_workers.ensures.directory c.join_worker.ensures.directory) c.join_worker-in-Err.ensures.directory
-
-pub returns-in_err-agent_tools-clause-directory : goal.returns-in_err-agent_tools-clause-directory
-returns-in_err-agent_tools-clause-directory g c = silent-refl c.args.directory.now
 
 pub returns-in-Ok-clause-same : goal.returns-in-Ok-clause-same
 returns-in-Ok-clause-same g c =
