@@ -10,7 +10,7 @@ use Rattle.silo_loops.specs.Walks.{Nothing, Work, WorkerState, work_in}
 use Rattle.silo_loops.specs.Agents.{AgentAdvancesFrom, AgentCalls, AgentCounts, AgentState, AgentView, HasSamePlaces, OnesPulled, agent_of}
 use Rattle.silo_loops.specs.Answers.{advance_of, over_of}
 use Rattle.silo_loops.specs.Lines.{CallsAt, DirectoryPass, HasLooked, LineView, QueuePass, places, rested}
-use Rattle.silo_loops.specs.Workers.{Follows, IsBeside, worker_of, WorkerAdvancesFrom, WorkerAsks, WorkerCalls, WorkerCounts, WorkerGoesOn, WorkerLooks, WorkerView, WorkerWorks}
+use Rattle.silo_loops.specs.Workers.{Follows, IsBeside, worker_of, WorkerAdvancesFrom, WorkerAsks, WorkerCalls, WorkerCounts, WorkerGoesOn, WorkerLooks, WorkerRanOut, WorkerView, WorkerWorks}
 
 -- a call leaves each line at its turnstile
 places-called : (lines : List LineView) (at : ℕ) (op : Op) (result : Result Reply Refusal) (new : List LineView) → CallsAt lines at op result new → places new ≡ places lines
@@ -23,30 +23,20 @@ places-rested : (lines : List LineView) → places (map rested lines) ≡ places
 places-rested [] = refl
 places-rested (l ∷ lines) = ap (λ ps. l.pass.turnstile ∷ ps) (places-rested lines)
 
-called-beside : (v w : WorkerView) → WorkerCalls v w → IsBeside v w
-called-beside v w c = record { lines = places-called v.lines c.at c.op c.result w.lines c.calls; directory = ap (λ (d : DirectoryPass). d.turnstile) c.directory }
-
-asked-beside : (v w : WorkerView) → WorkerAsks v w → IsBeside v w
-asked-beside v w a = record { lines = ap places a.lines; directory = ap (λ (d : DirectoryPass). d.turnstile) a.calls.call.only }
-
-worked-beside : (follows : Follows) (v w : WorkerView) → WorkerWorks follows v w → IsBeside v w
-worked-beside follows v w a = record { lines = ap places a.lines; directory = ap (λ (d : DirectoryPass). d.turnstile) a.directory }
+-- a call of a worker at a queue or at the directory leaves it at its turnstiles
+called-beside : {K : Type 0} (v w : WorkerView) → WorkerCalls v w ⊎ (WorkerAsks v w ⊎ K) → (K → IsBeside v w) → IsBeside v w
+called-beside v w (inl c) other = record { lines = places-called v.lines c.at c.op c.result w.lines c.calls; directory = ap (λ (d : DirectoryPass). d.turnstile) c.directory }
+called-beside v w (inr (inl a)) other = record { lines = ap places a.lines; directory = ap (λ (d : DirectoryPass). d.turnstile) a.calls.call.only }
+called-beside v w (inr (inr k)) other = other k
 
 -- a step leaves a worker at its turnstiles
 pub worker-beside : (follows : Follows) (from : Option Over) (did : Advance) (v w : WorkerView) → WorkerAdvancesFrom follows from did v w → IsBeside v w
 worker-beside follows None advance.Did v w a =
-    elim (a.0.1) as (λ s. IsBeside v w) [ inl c ↦ called-beside v w c | inr s ↦ elim s as (λ s. IsBeside v w) [ inl q ↦ asked-beside v w q | inr k ↦ worked-beside follows v w k ] ]
+    called-beside v w a.0.1 (λ (k : WorkerWorks follows v w). record { lines = ap places k.lines; directory = ap (λ (d : DirectoryPass). d.turnstile) k.directory })
 worker-beside follows None advance.Idle v w a =
     record { lines = ap places a.0.1.lines ∙ places-rested v.lines; directory = ap (λ (d : DirectoryPass). d.turnstile) a.0.1.directory }
 worker-beside follows None (advance.Over end) v w a =
-    elim (a.0.1) as (λ s. IsBeside v w) [
-      | inl c ↦ called-beside v w c
-      | inr s ↦
-          elim s as (λ s. IsBeside v w) [
-            | inl q ↦ asked-beside v w q
-            | inr k ↦ record { lines = ap (λ (u : WorkerView). places u.lines) k.0; directory = ap (λ (u : WorkerView). u.directory.turnstile) k.0 }
-          ]
-    ]
+    called-beside v w a.0.1 (λ (k : WorkerRanOut v w). record { lines = ap (λ (u : WorkerView). places u.lines) k.0; directory = ap (λ (u : WorkerView). u.directory.turnstile) k.0 })
 worker-beside follows (Some end) did v w a = record { lines = ap (λ (u : WorkerView). places u.lines) a.1; directory = ap (λ (u : WorkerView). u.directory.turnstile) a.1 }
 
 -- and an agent
@@ -67,14 +57,10 @@ steps-asked follows None a ends = (ends, inr (inl a))
 steps-asked follows (Some end) a ends = (ends, inr (inl a))
 
 module _ (follows : Follows) (v w : WorkerState) {rounds counted : ℕ} where
-  stepped : (over : Option Over) → WorkerGoesOn follows (advance_of over) (worker_of v rounds None) (worker_of w counted over) → WorkerCounts (worker_of v rounds None) (worker_of w counted over)
-      → WorkerAdvancesFrom follows None (advance_of over) (worker_of v rounds None) (worker_of w counted (over_of (advance_of over)))
-  stepped None s counts = (s, counts)
-  stepped (Some end) s counts = (s, counts)
-
   pub goes-on : {answer : Advance} (over : Option Over) → answer ≡ advance_of over → WorkerGoesOn follows (advance_of over) (worker_of v rounds None) (worker_of w counted over) → WorkerCounts (worker_of v rounds None) (worker_of w counted over)
       → WorkerAdvancesFrom follows None answer (worker_of v rounds None) (worker_of w counted (over_of answer))
-  goes-on over says s counts = subst (λ a. WorkerAdvancesFrom follows None a (worker_of v rounds None) (worker_of w counted (over_of a))) (sym says) (stepped over s counts)
+  goes-on None says s counts = subst (λ a. WorkerAdvancesFrom follows None a (worker_of v rounds None) (worker_of w counted (over_of a))) (sym says) (s, counts)
+  goes-on (Some end) says s counts = subst (λ a. WorkerAdvancesFrom follows None a (worker_of v rounds None) (worker_of w counted (over_of a))) (sym says) (s, counts)
 
 -- how a round begins, or doesn't
 module _ (follows : Follows) (v : WorkerState) (rounds : ℕ) (rests : v.step ≡ step.Rest) where
