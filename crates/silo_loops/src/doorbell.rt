@@ -284,8 +284,8 @@ impl Doorbell {
     // Tells the workers of the silos on which grains of the queue were found, or else those of the silo that has it.
     fn tell_workers<R: Wait>(&self, rt: &R, queue: usize, place: &Place) {
         let mut is_told = false;
-        for (silo, desk) in self.workers.iter().enumerate() {
-            if is_set(&place.grains, silo) && desk.is_open() {
+        for (has_grain, desk) in place.grains.iter().zip(self.workers.iter()) {
+            if has_grain.load(Ordering::SeqCst) && desk.is_open() {
                 desk.tell(rt, queue);
                 is_told = true;
             }
@@ -402,14 +402,6 @@ fn holder_of(place: &Place) -> u8 {
 fn is_stuck(place: &Place, desk: &Desk) -> bool {
     match desk.all_handle() {
         Some(handled) => place.handled.swap(handled, Ordering::SeqCst) == handled,
-        None => false,
-    }
-}
-
-// Whether the flag at this place is set.
-fn is_set(flags: &Vec<AtomicBool>, at: usize) -> bool {
-    match flags.get(at) {
-        Some(flag) => flag.load(Ordering::SeqCst),
         None => false,
     }
 }
