@@ -13,7 +13,7 @@ use crate::doorbell::Doorbell;
 use crate::heard::Heard;
 use crate::line::{Line, hear_at, keep_at, leave_at, rest_all};
 use crate::worker::TurnRoom;
-use crate::worker_walk::{Commit, Step, Turn, Walk, end_of_asking};
+use crate::worker_walk::{Step, Turn, Walk, end_of_asking};
 use activation_directory::DirectoryOp;
 use shared_partition::{DirectoryHistory, Gate, QueueHistory};
 use std::alloc::Global;
@@ -385,7 +385,7 @@ impl<G: Gate, H: QueueHistory, D: DirectoryHistory> Worker<G, H, D> {
         requires { self.old.step ≡ step.Tell grain.now permit sub.now token }
         ensures { (rounds counted : ℕ) → WorkerWorks G.follows (worker_of self.old rounds None) (worker_of self.new counted None) }
     {
-        self.walk.untold = Some(Commit { sub: *sub, token });
+        self.walk.untold = Some((*sub, token));
         self.walk.step = Step::Again(*grain, permit);
     }
 
@@ -447,8 +447,8 @@ impl<G: Gate, H: QueueHistory, D: DirectoryHistory> Worker<G, H, D> {
     pub(crate) fn tell_done(&mut self)
         ensures { self.new ≡ self.old }
     {
-        if let Some(commit) = self.walk.untold.take() {
-            self.gate.done(&commit.sub, commit.token);
+        if let Some((sub, token)) = self.walk.untold.take() {
+            self.gate.done(&sub, token);
         }
     }
 

@@ -45,17 +45,11 @@ pub(crate) enum Step {
     Leave(GrainId, u64),
 }
 
-/// A commit: whose turn it was, and the token of its last event.
-#[derive(Clone, Copy)]
-pub(crate) struct Commit {
-    pub(crate) sub: SubName,
-    pub(crate) token: Token,
-}
-
 /// The queue at which a worker is, the ready grain that it found there last, whether the round changed
 /// anything, and what it does next; how many more turns of that grain it may add, the ready grain that it found while it
-/// had the permit of that, and a commit of which the gate is still to be told, where no turn is kept; whether it goes by
-/// hints, which queues the round is for where it isn't for all, and the count of its desk before the round.
+/// had the permit of that, and the commit of which the gate is still to be told, where no turn is kept, by its turn's
+/// subscription and its last event's token; whether it goes by hints, which queues the round is for where it isn't for
+/// all, and the count of its desk before the round.
 #[derive(Drop)]
 pub(crate) struct Walk {
     pub(crate) at: usize,
@@ -64,7 +58,7 @@ pub(crate) struct Walk {
     pub(crate) step: Step,
     pub(crate) again: u8,
     pub(crate) found: Option<GrainId>,
-    pub(crate) untold: Option<Commit>,
+    pub(crate) untold: Option<(SubName, Token)>,
     pub(crate) by_hints: bool,
     pub(crate) hinted: Option<QueueSet>,
     pub(crate) seen: u64,
