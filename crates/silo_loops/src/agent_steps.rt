@@ -273,17 +273,10 @@ impl<G: Gate, H: QueueHistory> Agent<G, H> {
         requires { slice_get self.old.held self.old.at ≡ Some (Some generation) }
         ensures { (was : List (Option ℕ)) (rounds counted : ℕ) → AgentCalls (agent_of (record self.old { held = was }) rounds None) (agent_of self.new counted result) }
     {
-        let mut none = Vec::new(alloc);
+        let at = self.visit.at;
+        let mut nil = Vec::new(alloc);
         let op = self.visit.op(generation);
-        let answer = hear_at(
-            rt,
-            alloc,
-            &self.doorbell,
-            &mut self.lines,
-            self.visit.at,
-            op,
-            &mut none,
-        );
+        let answer = hear_at(rt, alloc, &self.doorbell, &mut self.lines, at, op, &mut nil);
         self.visit.after(&answer)
     }
 

@@ -233,15 +233,11 @@ impl<G: Gate, H: QueueHistory, D: DirectoryHistory> Worker<G, H, D> {
         requires { self.old.step ≡ step.Enter grain.now }
         ensures { (rounds counted : ℕ) → WorkerAsks (worker_of self.old rounds None) (worker_of self.new counted result) }
     {
-        let answer = self.directory.call(
-            rt,
-            alloc,
-            &self.doorbell,
-            DirectoryOp::Enter {
-                grain: *grain,
-                silo: self.silo,
-            },
-        );
+        let op = DirectoryOp::Enter {
+            grain: *grain,
+            silo: self.silo,
+        };
+        let answer = self.directory.call(rt, alloc, &self.doorbell, op);
         self.doorbell
             .hear_entering(rt, self.silo, self.walk.at, &answer);
         self.walk.after_enter(grain, &answer)
@@ -320,15 +316,11 @@ impl<G: Gate, H: QueueHistory, D: DirectoryHistory> Worker<G, H, D> {
         requires { self.old.step ≡ step.Leave grain.now permit }
         ensures { (rounds counted : ℕ) → WorkerAsks (worker_of self.old rounds None) (worker_of self.new counted result) }
     {
-        let answer = self.directory.call(
-            rt,
-            alloc,
-            &self.doorbell,
-            DirectoryOp::Leave {
-                grain: *grain,
-                permit,
-            },
-        );
+        let op = DirectoryOp::Leave {
+            grain: *grain,
+            permit,
+        };
+        let answer = self.directory.call(rt, alloc, &self.doorbell, op);
         self.doorbell.left(rt, self.silo);
         self.walk.after_leave();
         end_of_asking(&answer)
