@@ -4,10 +4,9 @@ use Rattle.std.proofs.lemmas.Slice.Zip.{AllZip-long}
 use Rattle.turnstile.proofs.Histories.{foreign-append}
 use Rattle.stream_model.specs.declared.plain.PlainPartition.{PlainPartition}
 use Rattle.silo_loops.specs.Lines.{DirectoryPass, LineView, places}
-use Rattle.silo_loops.specs.Chains.{Stays}
-use Rattle.silo_loops.specs.Workers.{Follows, WorkerView}
+use Rattle.silo_loops.specs.Workers.{WorkerView}
 use Rattle.silo_loops.specs.Fronts.{AllZipFront}
-use Rattle.silo_loops.specs.Silos.{AreAlike, AreSilent, AreTakenIn, GoOn, GoesOn, HasRun, HasTakenIn, IsMarked, IsSilent, IsSplitLine, IsSplitWorker, IsWorkerAt, LineGoesOn, LineIsSilent, SiloView, joined_line, joined_lines}
+use Rattle.silo_loops.specs.Silos.{AreAlike, AreSilent, AreTakenIn, GoOn, GoesOn, HasTakenIn, IsMarked, IsSilent, IsSplitLine, IsSplitWorker, IsWorkerAt, LineGoesOn, LineIsSilent, SiloView, joined_line, joined_lines}
 use Rattle.silo_loops.specs.Passes.{IsOtherIn}
 use Rattle.silo_loops.proofs.Taking.{alone-append, alone-fewer, alone-foreign, taken-joined, taken-on}
 use Rattle.silo_loops.proofs.Fronts.{front-all, front-fits, front-last, front-push, front-set, front-weaker}
@@ -101,11 +100,6 @@ silents-refl ls = zip-refl LineIsSilent (λ l. silent-refl l.pass) ls
 
 pub silents-trans : (ls ms ns : List LineView) → AreSilent ls ms → AreSilent ms ns → AreSilent ls ns
 silents-trans ls ms ns a b = zip-trans LineIsSilent (λ l m n. silent-trans l.pass m.pass n.pass) ls ms ns a b
-
--- one line more makes no call
-pub silents-set : (old now : List LineView) (at : ℕ) (l m : LineView) → at < length now → l ≡ get_or now at l → LineIsSilent l m → AreSilent old now → AreSilent old (set now at m)
-silents-set old now at l m within read one all =
-    silents-trans old now (set now at m) all (zip-set LineIsSilent (λ l. silent-refl l.pass) now at l m within (subst (λ (w : LineView). LineIsSilent w m) read one))
 
 pub goes-refl : (ls : List LineView) → GoOn ls ls
 goes-refl ls = zip-refl LineGoesOn (λ l. on-refl l.pass) ls
@@ -211,10 +205,8 @@ still-at others ls ms at on = at ∙ sym (goes-places ls ms on)
 pub worker-still : (ls ms : List LineView) (d e : DirectoryPass) (w : WorkerView) → IsWorkerAt ls d w → GoOn ls ms → IsSilent d e → IsWorkerAt ms e w
 worker-still ls ms d e w at on silent = (still-at w.lines ls ms at.0 on, at.1 ∙ sym silent.on.turnstile)
 
-pub split-fresh : (old own : List LineView) → AllZip IsSplitLine old own → (0 < length old) → (0 < length own) × AllByRecursion IsMarked own
-split-fresh old own split some =
-    let long = AllZip-long IsSplitLine old own split in
-    (omega (arith, long), split-marked old own split)
+pub split-some : (old own : List LineView) → AllZip IsSplitLine old own → 0 < length old → 0 < length own
+split-some old own split some = let long = AllZip-long IsSplitLine old own split in omega (arith, long)
 
 pub goes-some : (ls ms : List LineView) → GoOn ls ms → 0 < length ls → 0 < length ms
 goes-some ls ms on some = let long = goes-length ls ms on in omega (arith, long)
@@ -261,7 +253,9 @@ joining-more old all ls ms rest at l m w is here read made agree was =
     record {
       alike = subst (λ n. AllZipFront AreAlike (set ls n w) rest) (sym here) (front-set AreAlike ls rest w last.2);
       on = goes-trans old ls (set ls at w) was.on put;
-      silent = silents-set old ls at l w less read (silent-joined l.pass m.pass w.pass pass agree) was.silent;
+      silent =
+          silents-trans old ls (set ls at w) was.silent
+          (zip-set LineIsSilent (λ e. silent-refl e.pass) ls at l w less (subst (λ (v : LineView). LineIsSilent v w) read (silent-joined l.pass m.pass w.pass pass agree)));
       joined =
           ap (λ (es : List LineView). joined_lines es rest) (ap (λ n. set ls n w) here ∙ ap (λ (v : LineView). set ls (length rest) v) this)
           ∙ sym (joined-last ls rest l m last.0) ∙ ap (λ (es : List LineView). joined_lines ls es) (sym is) ∙ was.joined;
@@ -278,6 +272,3 @@ front-whole ls ms same front = front-all HasTakenIn ls ms (as-many ms ls same) f
   where
     as-many : (xs ys : List LineView) → places xs ≡ places ys → length xs ≡ length ys
     as-many xs ys same = sym (length-map xs (λ (l : LineView). l.pass.turnstile)) ∙ ap (λ (ts : List (Option (Origin PlainPartition))). length ts) same ∙ length-map ys (λ (l : LineView). l.pass.turnstile)
-
-pub ran-none : (follows : Follows) (s : SiloView) → HasRun s s
-ran-none follows s = record { silo = refl; agent = Stays; follows = follows; first = Stays; second = Stays }

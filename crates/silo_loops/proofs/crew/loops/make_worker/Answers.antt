@@ -1,7 +1,7 @@
 use Rattle.silo_loops.proofs.Prelude.{refl, sym, subst, ap, ◌∙◌}
 use Rattle.silo_loops.specs.Workers.{WorkerView}
 use Rattle.silo_loops.specs.Silos.{IsFreshWorker, IsSplitWorker, IsWorkerAt}
-use Rattle.silo_loops.proofs.Going.{goes-refl, silent-made, silent-refl, silent-same, split-at, split-fresh, split-marked}
+use Rattle.silo_loops.proofs.Going.{goes-refl, silent-made, silent-refl, silent-same, split-at, split-marked, split-some}
 use Rattle.silo_loops.proofs.crew.loops.make_worker.Goals as goal
 
 pub returns-in_err-kit-clause-go_on : goal.returns-in_err-kit-clause-go_on
@@ -11,7 +11,7 @@ pub returns-in_err-room-clause-go_on : goal.returns-in_err-room-clause-go_on
 returns-in_err-room-clause-go_on g c = goes-refl c.args.lines.now.items
 
 pub new-requires-in-Ok-after_bounds : goal.new-requires-in-Ok-after_bounds
-new-requires-in-Ok-after_bounds g c κs within = let fresh = split-fresh _ _ c.in_ok-own.ensures.new c.requires.some in fresh.0
+new-requires-in-Ok-after_bounds g c κs within = split-some _ _ c.in_ok-own.ensures.new c.requires.some
 
 pub join_lines-requires-after_bounds : goal.join_lines-requires-after_bounds
 join_lines-requires-after_bounds g c κs within = split-at _ _ _ c.in_ok-own.ensures.new c.split_lines.ensures.go_on

@@ -2,11 +2,10 @@ use Rattle.silo_loops.proofs.Prelude.{refl, subst}
 use Rattle.silo_loops.specs.Chains.{Stays}
 use Rattle.silo_loops.specs.Workers.{WorkerRuns, WorkerView}
 use Rattle.silo_loops.specs.Silos.{HasRun, SiloView}
-use Rattle.silo_loops.proofs.Going.{ran-none}
 use Rattle.silo_loops.proofs.crew.running.RunningSilo.start.Goals as goal
 
 pub returns-in_default : goal.returns-in_default
-returns-in_default g c = ran-none g.G.Gate.follows c.args.loops
+returns-in_default g c = record { silo = refl; agent = Stays; follows = g.G.Gate.follows; first = Stays; second = Stays }
 
 pub returns-in-Err : goal.returns-in-Err
 returns-in-Err g c =
