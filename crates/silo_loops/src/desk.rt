@@ -49,7 +49,8 @@ fn bit(queue: usize) -> Option<u64> {
     if queue < 64 { Some(1 << queue) } else { None }
 }
 
-/// A count at which the loops of one kind at a silo wait, and hints of the queues at which they are to look first.
+/// A count at which the loops of one kind at a silo wait, and hints of the queues at which they are to look first; or one
+/// at which all wait, without queues.
 #[derive(Drop)]
 pub(crate) struct Desk {
     hints: Vec<AtomicBool>,
@@ -83,12 +84,12 @@ pub(crate) fn set(flags: &Vec<AtomicBool>, at: usize, is_set: bool) {
 }
 
 impl Desk {
-    /// A desk for so many queues, with no hint.
-    pub(crate) fn new(alloc: Global, queues: usize) -> Result<Desk, AllocError> {
+    /// A desk for so many queues, with no hint, whose count begins with this number.
+    pub(crate) fn new(alloc: Global, queues: usize, count: u64) -> Result<Desk, AllocError> {
         Ok(Desk {
             hints: flags(alloc, queues)?,
             busy: flags(alloc, queues)?,
-            count: Mutex::new(0),
+            count: Mutex::new(count),
             rung: Condvar::new(),
             is_open: AtomicBool::new(false),
             waiting: AtomicU64::new(0),

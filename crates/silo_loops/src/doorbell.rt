@@ -8,7 +8,7 @@ use crate::desk::{Desk, QueueSet, flags, set};
 use activation_directory::DirectoryReply;
 use std::alloc::{AllocError, Global};
 use std::sync::atomic::{AtomicBool, AtomicU64, Ordering};
-use std::sync::{Condvar, Mutex, Wait};
+use std::sync::{Mutex, Wait};
 use step_core::{Answer, Reply};
 use stream_ident::MOST_SILOS;
 use turnstile::Refusal;
@@ -24,8 +24,8 @@ use turnstile::Refusal;
 /// contract says that the doorbell wakes anybody.
 #[derive(Drop)]
 pub struct Doorbell {
-    count: Mutex<u64>,
-    rung: Condvar,
+    // where those wait whom anything concerns
+    all: Desk,
     ended: AtomicBool,
     end: Mutex<Option<LoopEnd>>,
     agents: Vec<Desk>,
@@ -110,7 +110,7 @@ impl News {
 fn desks(alloc: Global, queues: usize) -> Result<Vec<Desk>, AllocError> {
     let mut desks = Vec::with_capacity(alloc, usize::from(MOST_SILOS))?;
     for _ in 0..MOST_SILOS {
-        desks.push(Desk::new(alloc, queues)?)?;
+        desks.push(Desk::new(alloc, queues, 0)?)?;
     }
     Ok(desks)
 }
@@ -128,8 +128,7 @@ impl Doorbell {
             places.push(Place::new(alloc)?)?;
         }
         Ok(Doorbell {
-            count: Mutex::new(count),
-            rung: Condvar::new(),
+            all: Desk::new(alloc, 0, count)?,
             ended: AtomicBool::new(false),
             end: Mutex::new(None),
             agents,
@@ -146,15 +145,7 @@ impl Doorbell {
         for desk in &self.workers {
             desk.ring(rt);
         }
-        self.ring_once(rt);
-    }
-
-    // Counts one more, and wakes those that wait at this count.
-    fn ring_once<R: Wait>(&self, rt: &R) {
-        let mut count = self.count.lock(rt);
-        *count = count.wrapping_add(1);
-        drop(count);
-        self.rung.notify_all();
+        self.all.ring(rt);
     }
 
     /// Tells whoever waits that a queue may never get quiet: a loop has ended by itself, a silo went and its queues
@@ -188,14 +179,12 @@ impl Doorbell {
 
     /// The count, to be remembered before looking for something to do.
     pub fn now<R: Wait>(&self, rt: &R) -> u64 {
-        *self.count.lock(rt)
+        self.all.now(rt)
     }
 
     /// Waits while the count is this one and `stop` isn't set. Whoever sets `stop` rings after it.
     pub fn wait_past<R: Wait>(&self, rt: &R, seen: u64, stop: &AtomicBool) {
-        let _count = self.rung.wait_while(rt, self.count.lock(rt), |count| {
-            *count == seen && !stop.load(Ordering::SeqCst)
-        });
+        self.all.wait_past(rt, seen, stop);
     }
 
     /// Tells whom an answer that a caller got at a queue concerns.
@@ -261,7 +250,7 @@ impl Doorbell {
             self.tell_loops(rt, queue, place, news);
         }
         if news.rings {
-            self.ring_once(rt);
+            self.all.ring(rt);
         }
     }
 
@@ -448,7 +437,7 @@ impl Bell {
         if self.keeps {
             self.news.rings |= rings;
         } else if rings {
-            doorbell.ring_once(rt);
+            doorbell.all.ring(rt);
         }
     }
 
