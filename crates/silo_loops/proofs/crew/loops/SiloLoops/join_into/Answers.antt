@@ -1,5 +1,5 @@
 use Rattle.silo_loops.proofs.Prelude.{subst, sym}
-use Rattle.silo_loops.specs.Silos.{AreTakenIn, IsWorkerAt, SiloView}
+use Rattle.silo_loops.specs.Silos.{IsWorkerAt, SiloView}
 use Rattle.silo_loops.proofs.Going.{goes-trans, silent-refl, silent-trans, silents-trans, taken-goes, taken-lines, worker-still}
 use Rattle.silo_loops.proofs.crew.loops.SiloLoops.join_into.Goals as goal
 
@@ -21,7 +21,7 @@ returns-clause-directory g c = silent-trans _ _ _ c.join_worker.ensures.director
 
 pub returns-clause-taken : goal.returns-clause-taken
 returns-clause-taken g c =
-    subst (λ (s : SiloView). AreTakenIn c.join_worker-2.new.lines.items c.join_worker-2.new.directory s) c.self.view_is
+    rw (← c.self.view_is)
     (record {
       agent = taken-lines _ _ _ (goes-trans _ _ _ c.join_worker.ensures.go_on c.join_worker-2.ensures.go_on) c.join_agent.ensures.taken;
       first = taken-lines _ _ _ c.join_worker-2.ensures.go_on c.join_worker.ensures.taken;

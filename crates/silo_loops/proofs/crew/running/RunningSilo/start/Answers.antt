@@ -1,20 +1,17 @@
 use Rattle.silo_loops.proofs.Prelude.{refl, subst}
 use Rattle.silo_loops.specs.Chains.{Stays}
 use Rattle.silo_loops.specs.Workers.{WorkerRuns, WorkerView}
-use Rattle.silo_loops.specs.Silos.{HasRun, SiloView}
 use Rattle.silo_loops.proofs.crew.running.RunningSilo.start.Goals as goal
 
 pub returns-in_default : goal.returns-in_default
 returns-in_default g c = record { silo = refl; agent = Stays; follows = g.G.Gate.follows; first = Stays; second = Stays }
 
 pub returns-in-Err : goal.returns-in-Err
-returns-in-Err g c =
-    subst (λ (s : SiloView). HasRun s (record { silo = c.loops.inside.silo; agent = c.loops.inside.agent; first = c.in-Err.first; second = c.in-Err.second })) c.loops.view_is
-    (record { silo = refl; agent = Stays; follows = g.G.Gate.follows; first = c.in-Err.ensures.first; second = c.in-Err.ensures.second })
+returns-in-Err g c = rw (← c.loops.view_is) (record { silo = refl; agent = Stays; follows = g.G.Gate.follows; first = c.in-Err.ensures.first; second = c.in-Err.ensures.second })
 
 pub returns-in-Err-start_agent : goal.returns-in-Err-start_agent
 returns-in-Err-start_agent g c =
-    subst (λ (s : SiloView). HasRun s (record { silo = c.loops.inside.silo; agent = c.in-Err-start_agent.agent; first = c.join.result; second = c.join-in-Err-start_agent.result })) c.loops.view_is
+    rw (← c.loops.view_is)
     (record {
       silo = refl;
       agent = c.in-Err-start_agent.ensures;
