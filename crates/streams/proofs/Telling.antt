@@ -1,11 +1,7 @@
 -- How a rule is told to one queue after another.
-use Rattle.std.proofs.Common.{◌≡◌, ℕ, suc, ◌+◌, ◌-◌, ◌<◌, Bool, ◌||◌, List, Result, Ok, Err, length, refl, sym, ap, subst, ◌∙◌, arith, inl, inr}
-use Rattle.std.proofs.lemmas.List.{length-set}
+use Rattle.std.proofs.Common.{◌≡◌, ℕ, suc, ◌+◌, ◌-◌, ◌<◌, Bool, ◌||◌, List, Result, Ok, Err, refl, sym, subst, arith, inl, inr}
 use Rattle.stream_model.specs.declared.op.Op.{Op}
-use Rattle.stream_model.specs.Replies.{Reply}
-use Rattle.turnstile.specs.declared.turnstile.Refusal.{Refusal}
 use Rattle.silo_loops.specs.Lines.{QueuePass}
-use Rattle.silo_threads.specs.Calls.{CallerCalls}
 use Rattle.streams.specs.declared.answers.CallError.{CallError}
 use Rattle.streams.specs.Answers as read
 use Rattle.streams.specs.Services.{Reads, TellsRule}
@@ -23,8 +19,3 @@ pub tells-refused : (n queue : ℕ) (op : Op) (so_far : Bool) (old : List QueueP
 tells-refused n queue op so_far old e new within reads =
     let more : n - queue ≡ suc (n - suc queue) = omega arith in
     subst (λ (k : ℕ). TellsRule k queue op so_far old (Err e) new) (sym more) (inl (e, reads, refl))
-
--- a call changes no number of queues
-pub calls-long : (old : List QueuePass) (queue : ℕ) (op : Op) (answer : Result Reply Refusal) (new : List QueuePass) → CallerCalls old queue op answer new → length new ≡ length old
-calls-long old queue op answer new calls =
-    ap (λ (ps : List QueuePass). length ps) calls.whole ∙ length-set old queue calls.is

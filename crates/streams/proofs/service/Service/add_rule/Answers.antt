@@ -1,9 +1,10 @@
 use Rattle.std.proofs.Common.{◌≡◌, ◌<◌, ◌∙◌, Err, Result, Bool, ap, arith, length, subst, sym}
 use Rattle.std.proofs.lemmas.Result.{err_from_is_err_and}
 use Rattle.stream_model.specs.declared.op.Op.TheVariants.{AddRule}
+use Rattle.silo_threads.proofs.Looking.{turnstiles-length}
 use Rattle.streams.specs.declared.answers.CallError.{CallError}
 use Rattle.streams.specs.Services.{AddsRule}
-use Rattle.streams.proofs.Telling.{calls-long, tells-next, tells-refused}
+use Rattle.streams.proofs.Telling.{tells-next, tells-refused}
 use Rattle.streams.proofs.service.Service.add_rule.Goals as goal
 
 pub returns-in_err-is_new-clause-adds : goal.returns-in_err-is_new-clause-adds
@@ -25,7 +26,7 @@ loop-queue-preserved g c =
     let rule = AddRule c.args.kind c.args.namespace in
     let within : c.loop-queue.queue < length old = omega (arith, c.loop-queue-test.true, c.loop-queue.auto.queue-end, c.queues-queue-end.ensures.count) in
     record {
-      long = calls-long c.loop-queue.self.caller c.loop-queue.queue rule c.ask.result c.ask.new.self.caller c.ask.ensures.calls ∙ c.loop-queue.invariant.long;
+      long = turnstiles-length c.loop-queue.self.caller c.ask.new.self.caller c.ask.ensures.turnstiles ∙ c.loop-queue.invariant.long;
       cluster = c.ask.ensures.cluster ∙ c.loop-queue.invariant.cluster;
       at = c.ask.ensures.turnstiles ∙ c.loop-queue.invariant.at;
       rest = λ result new told.
