@@ -1,9 +1,8 @@
-use Rattle.std.proofs.Common.{◌≡◌, ◌≢◌, ◌∙◌, ◌+◌, ◌-◌, ◌<◌, ℕ, suc, Result, Ok, Err, ap, arith, inl, inr, refl, subst, sym}
+use Rattle.std.proofs.Common.{◌≡◌, ◌≢◌, ◌∙◌, ◌+◌, ◌-◌, ◌<◌, ℕ, suc, Result, Ok, Err, arith, inl, inr, refl, subst, sym}
 use Rattle.std.proofs.lemmas.Result.{err_from_is_err_and}
 use Rattle.std.specs.declared.alloc.AllocError.{AllocError}
 use Rattle.silo_threads.specs.declared.ending.draining.Drained.{Drained}
 use Rattle.silo_threads.specs.Draining.{EndsLooking}
-use Rattle.streams.specs.declared.answers.SettleError.{SettleError}
 use Rattle.streams.specs.Settling.{Settles}
 use Rattle.streams.proofs.Rounds.{one-more, quiet-ended}
 use Rattle.streams.proofs.settling.settle.Goals as goal
@@ -22,10 +21,8 @@ returns-in_err-settled-clause-settles g c =
       c.count_batches-before.ensures.counts,
       inl (c.drain.result, e, c.drain.ensures.ends, sym c.in_err-settled.ensures, refl),
     ) in
-    let all = c.loop-round.invariant.rest (Err e) new (one-more (λ k. Settles k looks now (Err e) new) looks round within last) in
     let p = err_from_is_err_and c.from_residual.result c.from_residual.ensures.1 in
-    let same : p.0 ≡ e = p.2 in
-    subst (λ (r : Result Unit SettleError). Settles looks looks c.args.caller.now r new) (sym (p.1 ∙ ap (λ (x : SettleError). Err x) same)) all
+    rw (p.1, p.2) (c.loop-round.invariant.rest (Err e) new (one-more (λ k. Settles k looks now (Err e) new) looks round within last))
 
 pub returns-then-count_batches-before-clause-settles : goal.returns-then-count_batches-before-clause-settles
 returns-then-count_batches-before-clause-settles g c =

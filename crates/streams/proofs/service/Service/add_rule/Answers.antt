@@ -1,9 +1,7 @@
-use Rattle.std.proofs.Common.{◌≡◌, ◌<◌, ◌∙◌, Err, Result, Bool, ap, arith, length, subst, sym}
+use Rattle.std.proofs.Common.{◌<◌, ◌∙◌, Err, arith, length}
 use Rattle.std.proofs.lemmas.Result.{err_from_is_err_and}
 use Rattle.stream_model.specs.declared.op.Op.TheVariants.{AddRule}
 use Rattle.silo_threads.proofs.Looking.{turnstiles-length}
-use Rattle.streams.specs.declared.answers.CallError.{CallError}
-use Rattle.streams.specs.Services.{AddsRule}
 use Rattle.streams.proofs.Telling.{tells-next, tells-refused}
 use Rattle.streams.proofs.service.Service.add_rule.Goals as goal
 
@@ -16,9 +14,7 @@ returns-in_err-is_new-clause-adds g c =
     let within : c.loop-queue.queue < length old = omega (arith, c.loop-queue-test.true, c.loop-queue.auto.queue-end, c.queues-queue-end.ensures.count) in
     let refused = tells-refused (length old) c.loop-queue.queue rule c.loop-queue.is_new c.loop-queue.self.caller e new within (record { answer = c.ask.result; calls = c.ask.ensures.calls; is = c.in_err-is_new.ensures }) in
     let p = err_from_is_err_and c.from_residual.result c.from_residual.ensures.1 in
-    let same : p.0 ≡ e = p.2 in
-    subst (λ (r : Result Bool CallError). AddsRule old c.args.kind c.args.namespace r new) (sym (p.1 ∙ ap (λ (x : CallError). Err x) same))
-    (c.loop-queue.invariant.rest (Err e) new refused)
+    rw (p.1, p.2) (c.loop-queue.invariant.rest (Err e) new refused)
 
 pub loop-queue-preserved : goal.loop-queue-preserved
 loop-queue-preserved g c =

@@ -1,7 +1,6 @@
-use Rattle.std.proofs.Common.{◌≡◌, ◌∙◌, ◌+◌, ◌-◌, ◌<◌, ℕ, suc, Result, Ok, Err, ap, arith, inl, inr, refl, subst, sym}
+use Rattle.std.proofs.Common.{◌≡◌, ◌∙◌, ◌+◌, ◌-◌, ◌<◌, ℕ, suc, Ok, Err, ap, arith, inl, inr, refl, subst}
 use Rattle.std.proofs.lemmas.Result.{err_from_is_err_and}
 use Rattle.silo_threads.specs.Clusters.{ClusterView}
-use Rattle.streams.specs.declared.answers.SettleError.{SettleError}
 use Rattle.streams.specs.declared.answers.SettleError.TheVariants as settle
 use Rattle.streams.specs.Services.{ServiceView}
 use Rattle.streams.specs.Settling.{PublishesFrom, Settles, SettlesWith}
@@ -19,10 +18,8 @@ returns-in_err-settle-clause-settles g c =
     let e = c.in_err-settle.field-0.0 in
     let settles = subst (λ k. Settles k k now (Err e) new) (ap (λ (v : ClusterView). v.looks) c.loop-round.invariant.cluster) c.in_err-settle.ensures.settles in
     let last : SettlesWith (suc (looks - (round + 1))) looks now (Err e) new = inl (e, settles, refl) in
-    let all = c.loop-round.invariant.rest (Err e) new (one-more (λ k. SettlesWith k looks now (Err e) new) looks round within last) in
     let p = err_from_is_err_and c.from_residual.result c.from_residual.ensures.1 in
-    let same : p.0 ≡ e = p.2 in
-    subst (λ (r : Result Unit SettleError). SettlesWith looks looks c.args.self.now.caller r new) (sym (p.1 ∙ ap (λ (x : SettleError). Err x) same)) all
+    rw (p.1, p.2) (c.loop-round.invariant.rest (Err e) new (one-more (λ k. SettlesWith k looks now (Err e) new) looks round within last))
 
 pub returns-in-Ok-eq0-clause-settles : goal.returns-in-Ok-eq0-clause-settles
 returns-in-Ok-eq0-clause-settles g c =
