@@ -12,7 +12,7 @@ use Rattle.stream_model.specs.declared.plain.Grain.{Grain}
 use Rattle.stream_ident.proofs.NewNames.{length-fold}
 use Rattle.stream_model.proofs.PullingSteps.{subs_up_to}
 use Rattle.stream_model.proofs.SubNames.{AreGiven}
-use Rattle.stream_model.proofs.RecordBounds.{KeepsLimits, GrainFits, found-in-log, grain-fits, grain-set, handled-in, sub-set, rewound-set}
+use Rattle.stream_model.proofs.RecordBounds.{KeepsLimits, GrainFits, found-in-log, grain-fits, grain-set, handled-in, option_both, sub-set, rewound-set}
 
 -- what holds of each subscription that a rule makes
 abbrev HoldsOfNew : (SubName × Subscription → Type 0) → Type 0
@@ -89,46 +89,33 @@ bounds-deliver_position p s r st (Some position) within there fits is_next =
     (λ _. cond_both (not st.active && is_spent p) _ _ KeepsLimits (λ _. within)
     (λ left. bounds-delivered p s r st position within there fits (found-in-log (λ event. is_owed r.stream r.start event) p.log r.cursor p.high position is_next) left))
 
-bounds-deliver_to : (p : PlainPartition) (s : SubName) (found : Option Subscription) → IsWithinLimits p → sub_at p s ≡ found → IsWithinLimits (deliver_to p s found).0
-unfolding deliver_to
-bounds-deliver_to p s None within is_found = within
-bounds-deliver_to p s (Some r) within is_found =
-    cond_both (not r.is_open) _ _ KeepsLimits (λ _. within)
-    (λ _. bounds-deliver_position p s r (grain_at p r.grain) (next_position p r) within is_found (grain-fits p r.grain within) refl)
-
 pub bounds-deliver : (p : PlainPartition) (generation : ℕ) (s : SubName) → IsWithinLimits p → IsWithinLimits (deliver p generation s).0
-unfolding deliver
+unfolding deliver deliver_to
 bounds-deliver p generation s within =
-    cond_both (is_stale p generation) _ _ KeepsLimits (λ _. within) (λ _. bounds-deliver_to p s (sub_at p s) within refl)
-
-bounds-retry_of : (p : PlainPartition) (s : SubName) (found : Option Subscription) → IsWithinLimits p → sub_at p s ≡ found → IsWithinLimits (retry_of p s found).0
-unfolding retry_of
-bounds-retry_of p s None within is_found = within
-bounds-retry_of p s (Some r) within is_found =
-    cond_both (not r.is_open) _ _ KeepsLimits (λ _. within)
-    (λ _. sub-set p s r (rewound r) within is_found (handled-in p s r within is_found))
+    cond_both (is_stale p generation) _ _ KeepsLimits (λ _. within)
+    (λ _. option_both (sub_at p s) (λ found. KeepsLimits (deliver_to p s found)) (λ _. within)
+    (λ r there. cond_both (not r.is_open) _ _ KeepsLimits (λ _. within)
+    (λ _. bounds-deliver_position p s r (grain_at p r.grain) (next_position p r) within there (grain-fits p r.grain within) refl)))
 
 pub bounds-retry : (p : PlainPartition) (generation : ℕ) (s : SubName) → IsWithinLimits p → IsWithinLimits (retry p generation s).0
-unfolding retry
+unfolding retry retry_of
 bounds-retry p generation s within =
-    cond_both (is_stale p generation) _ _ KeepsLimits (λ _. within) (λ _. bounds-retry_of p s (sub_at p s) within refl)
+    cond_both (is_stale p generation) _ _ KeepsLimits (λ _. within)
+    (λ _. option_both (sub_at p s) (λ found. KeepsLimits (retry_of p s found)) (λ _. within)
+    (λ r there. cond_both (not r.is_open) _ _ KeepsLimits (λ _. within)
+    (λ _. sub-set p s r (rewound r) within there (handled-in p s r within there))))
 
 bounds-ack_position : (p : PlainPartition) (s : SubName) (r : Subscription) (positions : List ℕ) → IsWithinLimits p → sub_at p s ≡ Some r → IsWithinLimits (ack_position p s r positions).0
 unfolding ack_position
 bounds-ack_position p s r [] within is_r = within
 bounds-ack_position p s r (position ∷ positions) within is_r = sub-set p s r (acknowledged r position) within is_r (handled-in p s r within is_r)
 
-bounds-ack_of : (p : PlainPartition) (s : SubName) (token : Token) (found : Option Subscription) → IsWithinLimits p → sub_at p s ≡ found → IsWithinLimits (ack_of p s token found).0
-unfolding ack_of
-bounds-ack_of p s token None within is_found = within
-bounds-ack_of p s token (Some r) within is_found =
-    cond_both (not r.is_open) _ _ KeepsLimits (λ _. within)
-    (λ _. bounds-ack_position p s r (handled_at p r token) within is_found)
-
 pub bounds-ack : (p : PlainPartition) (generation : ℕ) (s : SubName) (token : Token) → IsWithinLimits p → IsWithinLimits (ack p generation s token).0
-unfolding ack
+unfolding ack ack_of
 bounds-ack p generation s token within =
-    cond_both (is_stale p generation) _ _ KeepsLimits (λ _. within) (λ _. bounds-ack_of p s token (sub_at p s) within refl)
+    cond_both (is_stale p generation) _ _ KeepsLimits (λ _. within)
+    (λ _. option_both (sub_at p s) (λ found. KeepsLimits (ack_of p s token found)) (λ _. within)
+    (λ r there. cond_both (not r.is_open) _ _ KeepsLimits (λ _. within) (λ _. bounds-ack_position p s r (handled_at p r token) within there)))
 
 bounds-purge_to : (p : PlainPartition) (low : ℕ) → IsWithinLimits p → IsWithinLimits (purge_to p low).0
 unfolding purge_to

@@ -17,6 +17,11 @@ use Rattle.stream_model.proofs.SubNames.{AreGiven, length-with_value}
 abbrev pub KeepsLimits : PlainPartition × Reply → Type 0
 KeepsLimits out = IsWithinLimits out.0
 
+-- what holds where nothing was found, and where something was, holds of what was found
+pub option_both : {A : Type 0} (found : Option A) (P : Option A → Type 0) → (found ≡ None → P None) → ((x : A) → found ≡ Some x → P (Some x)) → P found
+option_both None P none some = none refl
+option_both (Some x) P none some = some x refl
+
 -- what the grains of a partition keep, with this many rises
 abbrev pub GrainFits : List Event → ℕ → Grain → Type 0
 GrainFits log rises st =
@@ -57,11 +62,9 @@ All-set P same key v (entry ∷ entries) each new all =
 
 -- the grain that an operation names, one that was never active among them
 pub grain-fits : (p : PlainPartition) (g : GrainId) → IsWithinLimits p → GrainFits p.log p.rises (grain_at p g)
-grain-fits p g within = by (value_at same_grain g p.grains) (λ st found. All-value_at (GrainFits p.log p.rises) same_grain g st p.grains (grains-fit p within) found)
-  where
-    by : (o : Option Grain) → ((st : Grain) → o ≡ Some st → GrainFits p.log p.rises st) → GrainFits p.log p.rises (unwrap_or o new_grain)
-    by None found = (omega arith, tt, tt)
-    by (Some st) found = found st refl
+grain-fits p g within =
+    option_both (value_at same_grain g p.grains) (λ found. GrainFits p.log p.rises (unwrap_or found new_grain)) (λ _. (omega arith, tt, tt))
+    (λ st found. All-value_at (GrainFits p.log p.rises) same_grain g st p.grains (grains-fit p within) found)
 
 -- the records of a partition changed
 pub changed : (p : PlainPartition) (subs : List (SubName × Subscription)) (grains : List (GrainId × Grain)) (rises turns : ℕ) → IsWithinLimits p

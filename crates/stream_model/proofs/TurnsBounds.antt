@@ -1,5 +1,5 @@
 -- Begin, Commit and Deactivate keep the limits.
-use Rattle.stream_model.proofs.Prelude.{◌≡◌, ℕ, suc, ◌<◌, ◌==◌, ◌&&◌, false, not, nat_lt, List, [], ◌∷◌, ◌++◌, length, drop, Option, Some, None, is_some, refl, subst, arith, cond_both, leb-false, AllByRecursion, All-append, All-drop, turn_size, past, GrainId, SubName}
+use Rattle.stream_model.proofs.Prelude.{◌≡◌, ℕ, suc, ◌<◌, ◌==◌, ◌&&◌, false, not, nat_lt, List, [], ◌∷◌, ◌++◌, length, drop, Option, Some, None, is_some, subst, arith, cond_both, leb-false, AllByRecursion, All-append, All-drop, turn_size, past, GrainId, SubName}
 use Rattle.stream_model.specs.declared.plain.Delivery.{Delivery}
 use Rattle.stream_model.specs.declared.plain.Grain.{Grain}
 use Rattle.stream_model.specs.declared.plain.PlainPartition.{PlainPartition}
@@ -9,7 +9,7 @@ use Rattle.stream_model.specs.Bounds.{AreIn, IsWithinLimits, running_positions}
 use Rattle.stream_model.specs.Positions.{grain_at, is_spent, sub_at, with_grain}
 use Rattle.stream_model.specs.Turns.{begin, begin_for, begin_front, begin_in, begin_turn, commit, commit_for, commit_running, ended, front_of, deactivate, deactivate_in, deactivated, is_open_of}
 use Rattle.stream_model.proofs.Beginning.{All-front_of}
-use Rattle.stream_model.proofs.RecordBounds.{GrainFits, grain-fits, grain-set, handled-in, sub-set, KeepsLimits, rewound-set}
+use Rattle.stream_model.proofs.RecordBounds.{GrainFits, grain-fits, grain-set, handled-in, option_both, sub-set, KeepsLimits, rewound-set}
 
 bounds-begin_turn : (p : PlainPartition) (g : GrainId) (st : Grain) (s : SubName) (note : ℕ) (positions : List ℕ) → IsWithinLimits p → GrainFits p.log p.rises st → AreIn p.log positions → is_spent p ≡ false → IsWithinLimits (begin_turn p g st s note positions).0
 unfolding begin_turn
@@ -44,28 +44,24 @@ bounds-begin p g max_events within =
 bounds-ended : (p : PlainPartition) (g : GrainId) (st : Grain) → IsWithinLimits p → GrainFits p.log p.rises st → IsWithinLimits (ended p g st)
 bounds-ended p g st within fits = grain-set p g (record st { running = None }) p.rises p.turns within (omega arith) within.rises within.turns (fits.0, fits.1, tt)
 
-bounds-commit_for : (p : PlainPartition) (g : GrainId) (st : Grain) (run : RunningTurn) (note : ℕ) (found : Option Subscription) → IsWithinLimits p → GrainFits p.log p.rises st → AreIn p.log run.positions → sub_at p run.sub ≡ found → IsWithinLimits (commit_for p g st run note found).0
+bounds-commit_for : (p : PlainPartition) (g : GrainId) (st : Grain) (run : RunningTurn) (note : ℕ) → IsWithinLimits p → GrainFits p.log p.rises st → AreIn p.log run.positions → IsWithinLimits (commit_for p g st run note (sub_at p run.sub)).0
 unfolding commit_for
-bounds-commit_for p g st run note None within fits are_in is_found = within
-bounds-commit_for p g st run note (Some r) within fits are_in is_found =
+bounds-commit_for p g st run note within fits are_in =
     let after = bounds-ended p g st within fits in
-    cond_both (not r.is_open) _ _ KeepsLimits (λ _. after)
-    (λ _. sub-set (ended p g st) run.sub r (record r { handled = r.handled ++ run.positions; note = note }) after is_found
-    (All-append (λ position. position < length p.log) r.handled run.positions (handled-in p run.sub r within is_found) are_in))
-
-bounds-commit_running : (p : PlainPartition) (g : GrainId) (st : Grain) (activation turn note : ℕ) (running : Option RunningTurn) → IsWithinLimits p → GrainFits p.log p.rises st → st.running ≡ running → IsWithinLimits (commit_running p g st activation turn note running).0
-unfolding commit_running
-bounds-commit_running p g st activation turn note None within fits is_running = within
-bounds-commit_running p g st activation turn note (Some run) within fits is_running =
-    let Runs : Option RunningTurn → Type 0 = λ o. AreIn p.log (running_positions o) in
-    cond_both ((activation == st.activation) && (turn == run.turn)) _ _ KeepsLimits
-    (λ _. bounds-commit_for p g st run note (sub_at p run.sub) within fits (subst Runs is_running fits.2) refl)
-    (λ _. within)
+    option_both (sub_at p run.sub) (λ found. KeepsLimits (commit_for p g st run note found)) (λ _. within)
+    (λ r there. cond_both (not r.is_open) _ _ KeepsLimits (λ _. after)
+    (λ _. sub-set (ended p g st) run.sub r (record r { handled = r.handled ++ run.positions; note = note }) after there
+    (All-append (λ position. position < length p.log) r.handled run.positions (handled-in p run.sub r within there) are_in)))
 
 pub bounds-commit : (p : PlainPartition) (g : GrainId) (activation turn note : ℕ) → IsWithinLimits p → IsWithinLimits (commit p g activation turn note).0
-unfolding commit
+unfolding commit commit_running
 bounds-commit p g activation turn note within =
-    bounds-commit_running p g (grain_at p g) activation turn note (grain_at p g).running within (grain-fits p g within) refl
+    let st = grain_at p g in
+    let fits = grain-fits p g within in
+    let Runs : Option RunningTurn → Type 0 = λ o. AreIn p.log (running_positions o) in
+    option_both st.running (λ running. KeepsLimits (commit_running p g st activation turn note running)) (λ _. within)
+    (λ run is_running. cond_both ((activation == st.activation) && (turn == run.turn)) _ _ KeepsLimits
+    (λ _. bounds-commit_for p g st run note within fits (subst Runs is_running fits.2)) (λ _. within))
 
 bounds-deactivated : (p : PlainPartition) (g : GrainId) (st : Grain) → IsWithinLimits p → GrainFits p.log p.rises st → IsWithinLimits (deactivated p g st)
 bounds-deactivated p g st within fits =
