@@ -4,14 +4,14 @@ use Rattle.stream_model.specs.declared.op.Start.{Start}
 use Rattle.stream_model.specs.declared.op.Start.TheVariants.{Latest, At}
 use Rattle.stream_model.specs.declared.plain.Subscription.{Subscription}
 use Rattle.stream_model.specs.declared.plain.PlainPartition.{PlainPartition}
-use Rattle.stream_model.specs.Bounds.{AreIn, IsWithinLimits, running_positions}
+use Rattle.stream_model.specs.Bounds.{AreIn, IsGiven, IsWithinLimits, running_positions}
 use Rattle.stream_model.specs.Positions.{low_token, lower_bound, new_subscription, with_sub, sub_at}
 use Rattle.stream_model.specs.Publishing.{publish, subscribe, subscribe_at, add_rule, unsubscribe, unsubscribe_from, unsubscribed, without}
 use Rattle.stream_model.specs.declared.plain.Delivery.{Delivery}
 use Rattle.stream_model.specs.declared.plain.Grain.{Grain}
 use Rattle.stream_ident.proofs.EventLemmas.{length-events_of}
 use Rattle.stream_model.proofs.PublishingSteps.{is_bad}
-use Rattle.stream_model.proofs.SubNames.{AreGiven, AreGiven-more, with_value-new}
+use Rattle.stream_model.proofs.SubNames.{AreGiven-more, with_value-new}
 use Rattle.stream_model.proofs.RecordBounds.{KeepsLimits, GrainFits, changed, grains-fit, handled-in, sub-set, All-set}
 use Rattle.stream_model.proofs.ChangedValues.{All-changed}
 
@@ -25,15 +25,9 @@ bounds-published p stream payloads within good fits =
     let all : (positions : List ℕ) → AreIn p.log positions → AreIn log positions = λ positions. All-weaken _ _ longer positions in
     let events : length log ≤ p.limits.events = omega arith in
     let batches : suc p.batches ≤ length log = omega (arith, some, within.batches) in
-    let handled : AllByRecursion (λ (entry : SubName × Subscription). AreIn log entry.1.handled) p.subs =
-    All-weaken _ _ (λ (entry : SubName × Subscription). all entry.1.handled) p.subs within.handled
-    in
-    let waiting : AllByRecursion (λ (entry : GrainId × Grain). AllByRecursion (λ (d : Delivery). d.position < length log) entry.1.mailbox) p.grains =
-    All-weaken _ _ (λ (entry : GrainId × Grain). All-weaken _ _ (λ (d : Delivery). longer d.position) entry.1.mailbox) p.grains within.waiting
-    in
-    let running : AllByRecursion (λ (entry : GrainId × Grain). AreIn log (running_positions entry.1.running)) p.grains =
-    All-weaken _ _ (λ (entry : GrainId × Grain). all (running_positions entry.1.running)) p.grains within.running
-    in
+    let handled = All-weaken _ (λ (entry : SubName × Subscription). AreIn log entry.1.handled) (λ (entry : SubName × Subscription). all entry.1.handled) p.subs within.handled in
+    let waiting = All-weaken _ (λ (entry : GrainId × Grain). AllByRecursion (λ (d : Delivery). d.position < length log) entry.1.mailbox) (λ (entry : GrainId × Grain). All-weaken _ _ (λ (d : Delivery). longer d.position) entry.1.mailbox) p.grains within.waiting in
+    let running = All-weaken _ (λ (entry : GrainId × Grain). AreIn log (running_positions entry.1.running)) (λ (entry : GrainId × Grain). all (running_positions entry.1.running)) p.grains within.running in
     assumption
 
 pub bounds-publish : (p : PlainPartition) (stream : StreamId) (payloads : List (List ℕ)) → IsWithinLimits p → IsWithinLimits (publish p stream payloads).0
@@ -49,12 +43,8 @@ bounds-subscribed p sub within are_in fits =
     let size : length subs ≡ length p.subs + 1 = ap length (with_value-new p.explicit sub p.subs within.names) ∙ length_push p.subs (s, sub) in
     let fewer : length subs ≤ p.limits.subs = omega arith in
     let numbered : suc p.explicit ≤ length subs = omega (arith, within.explicit) in
-    let names : AreGiven (suc p.explicit) subs =
-    All-set _ same_sub s sub p.subs (λ entry given. given) (λ _. omega arith) (AreGiven-more p.explicit p.subs within.names)
-    in
-    let handled : AllByRecursion (λ (entry : SubName × Subscription). AreIn p.log entry.1.handled) subs =
-    All-set _ same_sub s sub p.subs (λ _ _. are_in) (λ _. are_in) within.handled
-    in
+    let names = All-set (λ (entry : SubName × Subscription). IsGiven (suc p.explicit) entry.0) same_sub s sub p.subs (λ entry given. given) (λ _. omega arith) (AreGiven-more p.explicit p.subs within.names) in
+    let handled = All-set (λ (entry : SubName × Subscription). AreIn p.log entry.1.handled) same_sub s sub p.subs (λ _ _. are_in) (λ _. are_in) within.handled in
     assumption
 
 bounds-subscribe_at : (p : PlainPartition) (stream : StreamId) (grain : GrainId) (start : Token) (position : ℕ) → IsWithinLimits p → IsWithinLimits (subscribe_at p stream grain start position).0
