@@ -1,5 +1,5 @@
 -- Look-ups in lists of keys with their values after a change.
-use Rattle.stream_model.proofs.Prelude.{◌≡◌, Bool, true, false, List, [], ◌∷◌, ◌++◌, Option, Some, None, if◌then◌else◌, refl, ap, subst, cond_both, value_at, with_value, changed_value, each_value, or_else}
+use Rattle.stream_model.proofs.Prelude.{◌≡◌, Bool, false, List, [], ◌∷◌, ◌++◌, Option, Some, None, if◌then◌else◌, refl, ap, subst, inl, inr, cases_Bool, cond_both, value_at, with_value, changed_value, each_value, or_else}
 use Rattle.stream_ident.proofs.SameValues.{IsEquality}
 
 -- the value at the key that was set
@@ -40,17 +40,11 @@ changed_value-other {V = V} same is q k change (entry ∷ entries) other =
 -- each value changed
 pub each_value-at : {K V : Type 0} (same : K → K → Bool) (q : K) (change : V → V) (entries : List (K × V)) → value_at same q (each_value change entries) ≡ changed_option change (value_at same q entries)
 each_value-at same q change [] = refl
-each_value-at {K} {V} same q change (entry ∷ entries) =
-    elim (same q entry.0) as (λ b. (if b then Some (change entry.1) else value_at same q (each_value change entries)) ≡ changed_option change (if b then Some entry.1 else value_at same q entries)) [
-      | true ↦ refl
-      | false ↦ each_value-at same q change entries
-    ]
+each_value-at same q change (entry ∷ entries) =
+    elim (cases_Bool (same q entry.0)) [ inl here ↦ rw here refl | inr apart ↦ rw apart (each_value-at same q change entries) ]
 
 -- entries at the end
 pub append-at : {K V : Type 0} (same : K → K → Bool) (q : K) (entries more : List (K × V)) → value_at same q (entries ++ more) ≡ or_else (value_at same q entries) (value_at same q more)
 append-at same q [] more = refl
-append-at {K} {V} same q (entry ∷ entries) more =
-    elim (same q entry.0) as (λ b. (if b then Some entry.1 else value_at same q (entries ++ more)) ≡ or_else (if b then Some entry.1 else value_at same q entries) (value_at same q more)) [
-      | true ↦ refl
-      | false ↦ append-at same q entries more
-    ]
+append-at same q (entry ∷ entries) more =
+    elim (cases_Bool (same q entry.0)) [ inl here ↦ rw here refl | inr apart ↦ rw apart (append-at same q entries more) ]
