@@ -1,4 +1,4 @@
-use Rattle.std.proofs.Common.{◌≡◌, ◌≢◌, ◌∙◌, ◌+◌, ◌-◌, ◌<◌, ℕ, suc, Result, Ok, Err, arith, inl, inr, refl, subst, sym}
+use Rattle.std.proofs.Common.{◌≡◌, ◌≢◌, ◌∙◌, ◌+◌, ◌-◌, ℕ, suc, Result, Ok, Err, arith, inl, inr, refl, subst, sym}
 use Rattle.std.proofs.lemmas.Result.{err_from_is_err_and}
 use Rattle.std.specs.declared.alloc.AllocError.{AllocError}
 use Rattle.silo_threads.specs.declared.ending.draining.Drained.{Drained}
@@ -11,7 +11,6 @@ pub returns-in_err-settled-clause-settles : goal.returns-in_err-settled-clause-s
 returns-in_err-settled-clause-settles g c =
     let looks = c.args.looks in
     let round = c.loop-round._round in
-    let within : round < looks = omega (arith, c.loop-round-test.true) in
     let now = c.loop-round.caller in
     let new = c.drain.new.caller in
     let e = c.in_err-settled.field-0.0 in
@@ -22,13 +21,12 @@ returns-in_err-settled-clause-settles g c =
       inl (c.drain.result, e, c.drain.ensures.ends, sym c.in_err-settled.ensures, refl),
     ) in
     let p = err_from_is_err_and c.from_residual.result c.from_residual.ensures.1 in
-    rw (p.1, p.2) (c.loop-round.invariant.rest (Err e) new (one-more (λ k. Settles k looks now (Err e) new) looks round within last))
+    rw (p.1, p.2) (c.loop-round.invariant.rest (Err e) new (one-more (λ k. Settles k looks now (Err e) new) looks round (omega (arith, c.loop-round-test.true)) last))
 
 pub returns-then-count_batches-before-clause-settles : goal.returns-then-count_batches-before-clause-settles
 returns-then-count_batches-before-clause-settles g c =
     let looks = c.args.looks in
     let round = c.loop-round._round in
-    let within : round < looks = omega (arith, c.loop-round-test.true) in
     let now = c.loop-round.caller in
     let before = c.count_batches-before.new.caller in
     let new = c.count_batches.new.caller in
@@ -40,13 +38,12 @@ returns-then-count_batches-before-clause-settles g c =
       c.count_batches-before.ensures.counts,
       inr (c.drain.new.caller, c.count_batches.result, new, quiet, c.count_batches.ensures.counts, inl (same, refl, refl)),
     ) in
-    c.loop-round.invariant.rest (Ok tt) new (one-more (λ k. Settles k looks now (Ok tt) new) looks round within last)
+    c.loop-round.invariant.rest (Ok tt) new (one-more (λ k. Settles k looks now (Ok tt) new) looks round (omega (arith, c.loop-round-test.true)) last)
 
 pub loop-round-preserved : goal.loop-round-preserved
 loop-round-preserved g c =
     let looks = c.args.looks in
     let round = c.loop-round._round in
-    let within : round < looks = omega (arith, c.loop-round-test.true) in
     let now = c.loop-round.caller in
     let before = c.count_batches-before.new.caller in
     let others : c.count_batches.result ≢ c.count_batches-before.result = λ is. absurd (omega (arith, is, c.if-count_batches-before.false)) in
@@ -60,5 +57,5 @@ loop-round-preserved g c =
             c.count_batches-before.ensures.counts,
             inr (c.drain.new.caller, c.count_batches.result, c.count_batches.new.caller, quiet, c.count_batches.ensures.counts, inr (others, more)),
           ) in
-          c.loop-round.invariant.rest result new (one-more (λ k. Settles k looks now result new) looks round within next);
+          c.loop-round.invariant.rest result new (one-more (λ k. Settles k looks now result new) looks round (omega (arith, c.loop-round-test.true)) next);
     }
