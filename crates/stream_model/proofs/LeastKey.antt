@@ -1,26 +1,22 @@
 -- The least key of a list whose value passes, found from the last to the first.
-use Rattle.stream_model.proofs.Prelude.{◌≡◌, ◌∙◌, ap, sym, refl, ℕ, ◌+◌, ◌-◌, ◌<◌, ◌≤◌, ◌&&◌, Bool, true, false, List, ◌∷◌, Option, Some, None, length, drop, get_or, inl, inr, arith, and_parts, cases_Bool, drop_all, drop_more, above, keys_where, lesser, is_above}
+use Rattle.stream_model.proofs.Prelude.{◌≡◌, ◌∙◌, ap, sym, refl, ℕ, ◌+◌, ◌-◌, ◌<◌, ◌≤◌, ◌&&◌, Bool, true, false, List, ◌∷◌, Option, Some, None, length, drop, get_or, if◌then◌else◌, inl, inr, arith, and_parts, cases_Bool, drop_all, drop_more, above, keys_where, lesser, is_above}
 use Rattle.stream_model.specs.Least.{least_key}
 
--- a key that is above the given one, and one that isn't
-above-there : {K : Type 0} (lt : K → K → Bool) (after : Option K) (key : K) (keys : List K) → is_above lt after key ≡ true → above lt after (key ∷ keys) ≡ key ∷ above lt after keys
-above-there lt None key keys is_there = refl
-above-there lt (Some a) key keys is_there = rw is_there refl
-
-above-not : {K : Type 0} (lt : K → K → Bool) (after : Option K) (key : K) (keys : List K) → is_above lt after key ≡ false → above lt after (key ∷ keys) ≡ above lt after keys
-above-not lt None key keys is_not = absurd (cc)
-above-not lt (Some a) key keys is_not = rw is_not refl
+-- a key is kept where it is above the given one
+above-cons : {K : Type 0} (lt : K → K → Bool) (after : Option K) (key : K) (keys : List K) → above lt after (key ∷ keys) ≡ (if is_above lt after key then key ∷ above lt after keys else above lt after keys)
+above-cons lt None key keys = refl
+above-cons lt (Some a) key keys = refl
 
 -- a key that passes, and one that doesn't
 there : {K V : Type 0} (lt : K → K → Bool) (after : Option K) (passes : V → Bool) (entry : K × V) (rest : List (K × V)) → (passes entry.1 && is_above lt after entry.0) ≡ true → least_key lt after passes (entry ∷ rest) ≡ Some (lesser lt entry.0 (least_key lt after passes rest))
 there lt after passes entry rest is_there =
     let parts = and_parts (passes entry.1) (is_above lt after entry.0) is_there in
-    rw (parts.0, above-there lt after entry.0 (keys_where passes rest) parts.1) refl
+    rw (parts.0, above-cons lt after entry.0 (keys_where passes rest), parts.1) refl
 
 not-there : {K V : Type 0} (lt : K → K → Bool) (after : Option K) (passes : V → Bool) (entry : K × V) (rest : List (K × V)) → (passes entry.1 && is_above lt after entry.0) ≡ false → least_key lt after passes (entry ∷ rest) ≡ least_key lt after passes rest
 not-there lt after passes entry rest is_not =
     elim (cases_Bool (passes entry.1)) [
-      | inl is ↦ rw (is, above-not lt after entry.0 (keys_where passes rest) (rw is at is_not)) refl
+      | inl is ↦ let fails : is_above lt after entry.0 ≡ false = rw is at is_not in rw (is, above-cons lt after entry.0 (keys_where passes rest), fails) refl
       | inr fails ↦ rw fails refl
     ]
 
