@@ -29,7 +29,7 @@ pub fn parse_number(bytes: &[u8]) -> Option<u64>
     if !is_numeral(bytes) {
         return None;
     }
-    str::from_utf8(bytes).ok()?.parse().ok()
+    ascii_text(bytes).parse().ok()
 }
 
 /// Whether bytes are digits, one at least, and no zero in front of others.
