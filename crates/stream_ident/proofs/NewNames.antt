@@ -59,8 +59,7 @@ added-last made entries xs x =
 pub added-more : {X V : Type 0} (made : X → List (SubName × V)) (entries : List (SubName × V)) (xs : List X) (i : ℕ) (x : X) → i < length xs → x ≡ get_or xs i x
     → fold added entries (flat_map made (take (i + 1) xs)) ≡ fold added (fold added entries (flat_map made (take i xs))) (made x)
 added-more made entries xs i x within is =
-    ap (λ front. fold added entries (flat_map made front)) (take_more xs i x within ∙ ap (λ last. take i xs ++ last ∷ []) (sym is))
-    ∙ added-last made entries (take i xs) x
+    rw (take_more xs i x within, ← is) (added-last made entries (take i xs) x)
 
 -- ---- the front
 
