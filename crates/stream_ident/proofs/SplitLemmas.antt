@@ -27,13 +27,9 @@ cut_later : (t : Bool) (byte : ℕ) (bytes : List ℕ) (n : ℕ) → option_map 
 cut_later true byte bytes n = refl
 cut_later false byte bytes n = refl
 
-cut_next : (byte : ℕ) (bytes : List ℕ) (n : ℕ) (rest : Option Parts) → rest ≡ option_map (cut bytes) (cond (nat_lt n (length bytes)) (Some n) None) → option_map (behind byte) rest ≡ option_map (cut (byte ∷ bytes)) (cond (nat_lt (suc n) (suc (length bytes))) (Some (suc n)) None)
-cut_next byte bytes n rest e =
-    ap (option_map (behind byte)) e ∙ (cut_later (nat_lt n (length bytes)) byte bytes n ∙ ap (λ t. option_map (cut (byte ∷ bytes)) (cond t (Some (suc n)) None)) (sym (nat_lt_suc n (length bytes))))
-
 cut_step : (b : Bool) (byte : ℕ) (bytes : List ℕ) (n : ℕ) (rest : Option Parts) → rest ≡ option_map (cut bytes) (cond (nat_lt n (length bytes)) (Some n) None) → cond b (Some ([], bytes)) (option_map (behind byte) rest) ≡ option_map (cut (byte ∷ bytes)) (cond (nat_lt (cond (not b) (1 + n) 0) (suc (length bytes))) (Some (cond (not b) (1 + n) 0)) None)
 cut_step true byte bytes n rest e = ap (λ t. option_map (cut (byte ∷ bytes)) (cond t (Some 0) None)) (sym (lt-ltb 0 (suc (length bytes)) (omega arith)))
-cut_step false byte bytes n rest e = rw (one-add n) (cut_next byte bytes n rest e)
+cut_step false byte bytes n rest e = rw (one-add n, nat_lt_suc n (length bytes), e) (cut_later (nat_lt n (length bytes)) byte bytes n)
 
 pub split_once-position : (separator : ℕ) (bytes : List ℕ) → split_once separator bytes ≡ option_map (cut bytes) (position (λ byte. byte == separator) bytes)
 split_once-position separator [] = refl
