@@ -26,14 +26,11 @@ module _ {D K : Type 0} (same : K → K → Bool) (sub_of : D → K) (position_o
   front-start reflexive most d ds done some first is_first =
       let n : ℕ = most - 1 in
       let most_is : most ≡ suc n = omega arith in
-      let left : most - length done ≡ n = ap (λ xs. most - length xs) is_first in
       let passes = and_from _ _ (reflexive (sub_of d)) (le-leb (position_of d) (position_of d) (omega arith)) in
-      ap (λ xs. xs ++ rising_front same sub_of position_of (most - length done) (sub_of d) (suc (position_of d)) (take (length ds - 1) (drop 1 ds))) is_first
-      ∙ (ap (λ m. position_of d ∷ rising_front same sub_of position_of m (sub_of d) (suc (position_of d)) (take (length ds - 1) (drop 1 ds))) left
-      ∙ (ap (λ rest. position_of d ∷ rising_front same sub_of position_of n (sub_of d) (suc (position_of d)) rest) (take_rest ds 1)
-      ∙ (sym (front-cons n (sub_of d) (position_of d) d (drop 1 ds) passes)
+      rw (is_first, take_rest ds 1)
+      (sym (front-cons n (sub_of d) (position_of d) d (drop 1 ds) passes)
       ∙ (ap (λ m. rising_front same sub_of position_of m (sub_of d) (position_of d) (d ∷ drop 1 ds)) (sym most_is)
-      ∙ ap (rising_front same sub_of position_of most (sub_of d) (position_of d)) (sym first)))))
+      ∙ ap (rising_front same sub_of position_of most (sub_of d) (position_of d)) (sym first)))
 
   -- one more delivery
   pub front-more : (done : List ℕ) (most : ℕ) (s : K) (from : ℕ) (ds : List D) (i : ℕ) (d : D) → i < length ds → d ≡ get_or ds i d → length done < most → (same s (sub_of d) && nat_le from (position_of d)) ≡ true
