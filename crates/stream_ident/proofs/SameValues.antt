@@ -1,5 +1,5 @@
 -- Names that are the same.
-use Rattle.std.proofs.Common.{◌≡◌, ℕ, Bool, true, List, refl, ap}
+use Rattle.std.proofs.Common.{◌≡◌, ◌&&◌, ℕ, Bool, true, List, refl, ap}
 use Rattle.std.proofs.lemmas.Bool.{and_from, and_parts, eqb-true, eq-eqb, false≢true}
 use Rattle.std.specs.Cmp.Lexicographic.{bytes_decides}
 use Rattle.stream_ident.specs.declared.ident.GrainId.{GrainId}
@@ -15,22 +15,20 @@ same_name-equal a b same = (bytes_decides a b).0 same
 pub same_name-refl : (a : List ℕ) → same_name a a ≡ true
 same_name-refl a = (bytes_decides a a).1 refl
 
+same_names-equal : (a b k l : List ℕ) → (same_name a b && same_name k l) ≡ true → (a ≡ b) × (k ≡ l)
+same_names-equal a b k l same =
+    let parts = and_parts (same_name a b) (same_name k l) same in (same_name-equal a b parts.0, same_name-equal k l parts.1)
+
 pub same_stream-equal : (a b : StreamId) → same_stream a b ≡ true → a ≡ b
 same_stream-equal a b same =
-    let parts = and_parts (same_name a.namespace b.namespace) (same_name a.key b.key) same in
-    let namespaces = same_name-equal a.namespace b.namespace parts.0 in
-    let keys = same_name-equal a.key b.key parts.1 in
-    λ i. record { namespace = namespaces i; key = keys i }
+    let equal = same_names-equal a.namespace b.namespace a.key b.key same in λ i. record { namespace = equal.0 i; key = equal.1 i }
 
 pub same_stream-refl : (a : StreamId) → same_stream a a ≡ true
 same_stream-refl a = and_from (same_name a.namespace a.namespace) (same_name a.key a.key) (same_name-refl a.namespace) (same_name-refl a.key)
 
 pub same_grain-equal : (a b : GrainId) → same_grain a b ≡ true → a ≡ b
 same_grain-equal a b same =
-    let parts = and_parts (same_name a.kind b.kind) (same_name a.key b.key) same in
-    let kinds = same_name-equal a.kind b.kind parts.0 in
-    let keys = same_name-equal a.key b.key parts.1 in
-    λ i. record { kind = kinds i; key = keys i }
+    let equal = same_names-equal a.kind b.kind a.key b.key same in λ i. record { kind = equal.0 i; key = equal.1 i }
 
 pub same_grain-refl : (a : GrainId) → same_grain a a ≡ true
 same_grain-refl a = and_from (same_name a.kind a.kind) (same_name a.key a.key) (same_name-refl a.kind) (same_name-refl a.key)
