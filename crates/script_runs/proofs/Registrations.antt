@@ -1,5 +1,5 @@
 -- What an operation keeps of the records: who was subscribed to what, and the rules.
-use Rattle.script_runs.proofs.Prelude.{◌≡◌, ◌∙◌, ap, sym, refl, ℕ, suc, ◌+◌, ◌==◌, ◌&&◌, ◌||◌, not, nat_lt, nat_le, true, false, List, [], ◌∷◌, ◌++◌, length, map, Option, Some, None, is_some, if◌then◌else◌, cond_both, same_grain, same_sub, each_value, past, value_at, with_value, GrainId, StreamId, SubName, BATCH_EVENTS, MAILBOX_PLACES, Token, grain_at, is_spent, next_position, sub_at, acknowledged, caught_up, handled_at, is_stale, rewound, rewound_where, Reply, PlainPartition, Subscription}
+use Rattle.script_runs.proofs.Prelude.{◌≡◌, refl, ℕ, suc, ◌+◌, ◌==◌, ◌&&◌, ◌||◌, not, nat_lt, nat_le, false, List, [], ◌∷◌, ◌++◌, length, map, Option, Some, None, is_some, cond_both, same_grain, same_sub, each_value, past, GrainId, StreamId, SubName, BATCH_EVENTS, MAILBOX_PLACES, Token, grain_at, is_spent, next_position, sub_at, acknowledged, caught_up, handled_at, is_stale, rewound, rewound_where, Reply, PlainPartition, Subscription}
 use Rattle.stream_ident.specs.declared.ident.SubName.TheVariants as name
 use Rattle.stream_ident.specs.Blocks.{turn_size}
 use Rattle.stream_model.specs.declared.plain.Delivery.{Delivery}
@@ -8,6 +8,7 @@ use Rattle.stream_model.specs.declared.plain.RunningTurn.{RunningTurn}
 use Rattle.stream_model.specs.Publishing.{publish, unsubscribe, unsubscribe_from}
 use Rattle.stream_model.specs.Pulling.{ack, ack_of, ack_position, deliver, deliver_position, deliver_to, move, move_to, purge, purge_to, retry, retry_of}
 use Rattle.stream_model.specs.Turns.{begin, begin_for, begin_front, begin_in, begin_turn, commit, commit_for, commit_running, deactivate, deactivate_in}
+use Rattle.step_core.proofs.OnceOps.{with_value-map}
 
 -- who is subscribed to what, from when on
 pub record Registration : Type 0 where
@@ -21,18 +22,6 @@ registered entry = record { name = entry.0; stream = entry.1.stream; grain = ent
 
 abbrev pub registrations : List (SubName × Subscription) → List Registration
 registrations subs = map registered subs
-
--- one record set again, of the same registration
-registrations-with_value : (s : SubName) (r now : Subscription) (subs : List (SubName × Subscription)) → value_at same_sub s subs ≡ Some r
-    → ((k : SubName) → registered (k, now) ≡ registered (k, r)) → registrations (with_value same_sub s now subs) ≡ registrations subs
-registrations-with_value s r now [] found alike = absurd (cc)
-registrations-with_value s r now (entry ∷ subs) found alike =
-    (elim (same_sub s entry.0) as (λ b. (if b then Some entry.1 else value_at same_sub s subs) ≡ Some r → registrations (if b then (entry.0, now) ∷ subs else entry ∷ with_value same_sub s now subs) ≡ registrations (entry ∷ subs)) [
-      | true ↦ λ found.
-          let same : entry.1 ≡ r = cc in
-          ap (λ first. first ∷ registrations subs) (alike entry.0 ∙ ap (λ r. registered (entry.0, r)) (sym same))
-      | false ↦ λ found. ap (λ rest. registered entry ∷ rest) (registrations-with_value s r now subs found alike)
-    ]) found
 
 registrations-each_value : (change : Subscription → Subscription) → ((entry : SubName × Subscription) → registered (entry.0, change entry.1) ≡ registered entry)
     → (subs : List (SubName × Subscription)) → registrations (each_value change subs) ≡ registrations subs
@@ -56,7 +45,7 @@ keeps-unsubscribe_from p (name.Implicit kind stream) None is = (refl, refl, refl
 keeps-unsubscribe_from p (name.Implicit kind stream) (Some r) is = (refl, refl, refl)
 keeps-unsubscribe_from p (name.Explicit number) (Some r) is =
     cond_both (not r.is_open) _ _ (Keeps p) (λ _. (refl, refl, refl))
-    (λ _. (registrations-with_value (name.Explicit number) r (record r { is_open = false }) p.subs is (λ k. refl), refl, refl))
+    (λ _. (with_value-map registered same_sub (name.Explicit number) r (record r { is_open = false }) p.subs is (λ k. refl), refl, refl))
 
 pub keeps-unsubscribe : (p : PlainPartition) (s : SubName) → Keeps p (unsubscribe p s)
 unfolding unsubscribe
@@ -64,11 +53,11 @@ keeps-unsubscribe p s = keeps-unsubscribe_from p s (sub_at p s) refl
 
 keeps-deliver_position : (p : PlainPartition) (s : SubName) (r : Subscription) (st : Grain) (next : Option ℕ) → sub_at p s ≡ Some r → Keeps p (deliver_position p s r st next)
 unfolding deliver_position
-keeps-deliver_position p s r st None is = (registrations-with_value s r (caught_up p s r) p.subs is (λ k. refl), refl, refl)
+keeps-deliver_position p s r st None is = (with_value-map registered same_sub s r (caught_up p s r) p.subs is (λ k. refl), refl, refl)
 keeps-deliver_position p s r st (Some position) is =
     cond_both (nat_le MAILBOX_PLACES (length st.mailbox)) _ _ (Keeps p) (λ _. (refl, refl, refl))
     (λ _. cond_both (not st.active && is_spent p) _ _ (Keeps p) (λ _. (refl, refl, refl))
-    (λ _. (registrations-with_value s r (record r { cursor = suc position }) p.subs is (λ k. refl), refl, refl)))
+    (λ _. (with_value-map registered same_sub s r (record r { cursor = suc position }) p.subs is (λ k. refl), refl, refl)))
 
 keeps-deliver_to : (p : PlainPartition) (s : SubName) (found : Option Subscription) → sub_at p s ≡ found → Keeps p (deliver_to p s found)
 unfolding deliver_to
@@ -84,7 +73,7 @@ keeps-retry_of : (p : PlainPartition) (s : SubName) (found : Option Subscription
 unfolding retry_of
 keeps-retry_of p s None is = (refl, refl, refl)
 keeps-retry_of p s (Some r) is =
-    cond_both (not r.is_open) _ _ (Keeps p) (λ _. (refl, refl, refl)) (λ _. (registrations-with_value s r (rewound r) p.subs is (λ k. refl), refl, refl))
+    cond_both (not r.is_open) _ _ (Keeps p) (λ _. (refl, refl, refl)) (λ _. (with_value-map registered same_sub s r (rewound r) p.subs is (λ k. refl), refl, refl))
 
 pub keeps-retry : (p : PlainPartition) (generation : ℕ) (s : SubName) → Keeps p (retry p generation s)
 unfolding retry
@@ -93,7 +82,7 @@ keeps-retry p generation s = cond_both (is_stale p generation) _ _ (Keeps p) (λ
 keeps-ack_position : (p : PlainPartition) (s : SubName) (r : Subscription) (positions : List ℕ) → sub_at p s ≡ Some r → Keeps p (ack_position p s r positions)
 unfolding ack_position
 keeps-ack_position p s r [] is = (refl, refl, refl)
-keeps-ack_position p s r (position ∷ positions) is = (registrations-with_value s r (acknowledged r position) p.subs is (λ k. refl), refl, refl)
+keeps-ack_position p s r (position ∷ positions) is = (with_value-map registered same_sub s r (acknowledged r position) p.subs is (λ k. refl), refl, refl)
 
 keeps-ack_of : (p : PlainPartition) (s : SubName) (token : Token) (found : Option Subscription) → sub_at p s ≡ found → Keeps p (ack_of p s token found)
 unfolding ack_of
@@ -139,7 +128,7 @@ unfolding commit_for
 keeps-commit_for p g st run note None is = (refl, refl, refl)
 keeps-commit_for p g st run note (Some r) is =
     cond_both (not r.is_open) _ _ (Keeps p) (λ _. (refl, refl, refl))
-    (λ _. (registrations-with_value run.sub r (record r { handled = r.handled ++ run.positions; note = note }) p.subs is (λ k. refl), refl, refl))
+    (λ _. (with_value-map registered same_sub run.sub r (record r { handled = r.handled ++ run.positions; note = note }) p.subs is (λ k. refl), refl, refl))
 
 keeps-commit_running : (p : PlainPartition) (g : GrainId) (st : Grain) (activation turn note : ℕ) (running : Option RunningTurn) → Keeps p (commit_running p g st activation turn note running)
 unfolding commit_running
