@@ -14,8 +14,9 @@ use Rattle.stream_model.specs.Publishing.{add_rule, subscribe, subscribe_at, uns
 use Rattle.stream_model.specs.Pulling.{pull, pull_count, pull_events, pull_want}
 use Rattle.stream_model.specs.Step.{step}
 use Rattle.stream_laws.proofs.Summary.{summary}
+use Rattle.step_core.proofs.KeptNames.{stay-ack, stay-begin, stay-commit, stay-deliver}
 use Rattle.script_runs.proofs.Made.{AreWithin, IsMadeOf, all-made-of}
-use Rattle.script_runs.proofs.Registrations.{Keeps, Registration, keeps-ack, keeps-begin, keeps-commit, keeps-deactivate, keeps-deliver, keeps-move, keeps-publish, keeps-purge, keeps-retry, keeps-unsubscribe, registered, registrations}
+use Rattle.script_runs.proofs.Registrations.{Keeps, Registration, keeps-deactivate, keeps-faces, keeps-move, keeps-publish, keeps-purge, keeps-retry, keeps-unsubscribe, registered, registrations}
 use Rattle.script_runs.specs.Told.{is_subscribed, rule_of, rules_of, subscribed_count}
 
 -- the number and the grain of an explicit registration
@@ -311,12 +312,12 @@ told-step history p (op.Subscribe stream grain start) fits told =
 told-step history p (op.Unsubscribe sub) fits told = told-unsubscribe history p sub told
 told-step history p (op.AddRule kind namespace) fits told = told-add_rule history p kind namespace told
 told-step history p (op.Pull generation max_events) fits told = told-pull history p generation max_events fits told
-told-step history p (op.Deliver generation sub) fits told = told-plain history p (op.Deliver generation sub) _ told (keeps-deliver p generation sub) refl
+told-step history p (op.Deliver generation sub) fits told = told-plain history p (op.Deliver generation sub) _ told (keeps-faces p (step p (op.Deliver generation sub)) (stay-deliver p generation sub)) refl
 told-step history p (op.Retry generation sub) fits told = told-plain history p (op.Retry generation sub) _ told (keeps-retry p generation sub) refl
-told-step history p (op.Ack generation sub token) fits told = told-plain history p (op.Ack generation sub token) _ told (keeps-ack p generation sub token) refl
+told-step history p (op.Ack generation sub token) fits told = told-plain history p (op.Ack generation sub token) _ told (keeps-faces p (step p (op.Ack generation sub token)) (stay-ack p generation sub token)) refl
 told-step history p (op.Purge generation keep) fits told = told-plain history p (op.Purge generation keep) _ told (keeps-purge p generation keep) refl
-told-step history p (op.Begin grain max_events) fits told = told-plain history p (op.Begin grain max_events) _ told (keeps-begin p grain max_events) refl
-told-step history p (op.Commit grain activation turn note) fits told = told-plain history p (op.Commit grain activation turn note) _ told (keeps-commit p grain activation turn note) refl
+told-step history p (op.Begin grain max_events) fits told = told-plain history p (op.Begin grain max_events) _ told (keeps-faces p (step p (op.Begin grain max_events)) (stay-begin p grain max_events)) refl
+told-step history p (op.Commit grain activation turn note) fits told = told-plain history p (op.Commit grain activation turn note) _ told (keeps-faces p (step p (op.Commit grain activation turn note)) (stay-commit p grain activation turn note)) refl
 told-step history p (op.Deactivate grain) fits told = told-plain history p (op.Deactivate grain) _ told (keeps-deactivate p grain) refl
 told-step history p (op.Move silo) fits told = told-plain history p (op.Move silo) _ told (keeps-move p silo) refl
 told-step history p o fits told = told-plain history p o (p, _) told (refl, refl, refl) refl

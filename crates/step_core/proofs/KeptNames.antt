@@ -1,5 +1,5 @@
 -- To serve a subscription makes, opens and closes none: the names stay as they are, and so do those of the open ones.
-use Rattle.step_core.proofs.Prelude.{◌≡◌, ◌∙◌, ap, sym, refl, ℕ, zero, suc, ◌-◌, nat_lt, nat_le, ◌==◌, ◌&&◌, not, Bool, true, false, List, [], ◌∷◌, ◌++◌, length, filter, map, Option, Some, None, cond_both, turn_size, same_sub, sub_lt, keys_where, past, GrainId, SubName, MAILBOX_PLACES, Token, Progress, after_ack, after_begin, after_commit, after_last_deliver, and_then, ask, go_on, in_order, last_handled, next_note, open_names, grain_at, is_spent, next_position, sub_at, with_sub, acknowledged, is_stale, Reply, Op, Ack, Begin, Commit, Deliver, Grain, PlainPartition, Subscription}
+use Rattle.step_core.proofs.Prelude.{◌≡◌, ◌∙◌, ap, sym, refl, ℕ, zero, suc, ◌-◌, nat_lt, nat_le, ◌==◌, ◌&&◌, not, Bool, true, false, List, [], ◌∷◌, ◌++◌, length, filter, map, Option, Some, None, cond_both, turn_size, same_sub, sub_lt, keys_where, past, GrainId, StreamId, SubName, MAILBOX_PLACES, Token, Progress, after_ack, after_begin, after_commit, after_last_deliver, and_then, ask, go_on, in_order, last_handled, next_note, open_names, grain_at, is_spent, next_position, sub_at, acknowledged, is_stale, Reply, Op, Ack, Begin, Commit, Deliver, Grain, PlainPartition, Subscription}
 use Rattle.std.proofs.Common.{is_some, if◌then◌else◌}
 use Rattle.stream_model.specs.declared.plain.Delivery.{Delivery}
 use Rattle.stream_model.specs.declared.plain.RunningTurn.{RunningTurn}
@@ -16,109 +16,113 @@ use Rattle.step_core.proofs.OnceOps.{with_value-map}
 abbrev pub open_keys : PlainPartition → List SubName
 open_keys p = keys_where (λ (r : Subscription). r.is_open) p.subs
 
--- the name of a subscription, and whether it is open
-abbrev face : SubName × Subscription → SubName × Bool
-face entry = (entry.0, entry.1.is_open)
+-- who is subscribed to what, from when on, and whether it is open
+pub record Face : Type 0 where
+  pub name : SubName
+  pub stream : StreamId
+  pub grain : GrainId
+  pub start : Token
+  pub is_open : Bool
 
-abbrev faces : PlainPartition → List (SubName × Bool)
+abbrev pub face : SubName × Subscription → Face
+face entry = record { name = entry.0; stream = entry.1.stream; grain = entry.1.grain; start = entry.1.start; is_open = entry.1.is_open }
+
+abbrev pub faces : PlainPartition → List Face
 faces p = map face p.subs
 
-abbrev StayIn : PlainPartition → PlainPartition × Reply → Type 0
-StayIn p out = faces out.0 ≡ faces p
+-- an operation leaves the faces, the rules and the last number as they were
+abbrev pub StayIn : PlainPartition → PlainPartition × Reply → Type 0
+StayIn p out = (faces out.0 ≡ faces p) × (out.0.rules ≡ p.rules) × (out.0.explicit ≡ p.explicit)
 
 -- the names of all, and of the open ones
-names-of-faces : (subs : List (SubName × Subscription)) → map (λ (e : SubName × Subscription). e.0) subs ≡ map (λ (f : SubName × Bool). f.0) (map face subs)
+names-of-faces : (subs : List (SubName × Subscription)) → map (λ (e : SubName × Subscription). e.0) subs ≡ map (λ (f : Face). f.name) (map face subs)
 names-of-faces [] = refl
 names-of-faces (entry ∷ subs) = ap (λ rest. entry.0 ∷ rest) (names-of-faces subs)
 
-keys-of-faces : (subs : List (SubName × Subscription)) → keys_where (λ (r : Subscription). r.is_open) subs ≡ map (λ (f : SubName × Bool). f.0) (filter (λ (f : SubName × Bool). f.1) (map face subs))
+keys-of-faces : (subs : List (SubName × Subscription)) → keys_where (λ (r : Subscription). r.is_open) subs ≡ map (λ (f : Face). f.name) (filter (λ (f : Face). f.is_open) (map face subs))
 keys-of-faces [] = refl
 keys-of-faces (entry ∷ subs) =
     let same = keys-of-faces subs in
     let kept = filter (λ (e : SubName × Subscription). e.1.is_open) subs in
-    let rest = filter (λ (f : SubName × Bool). f.1) (map face subs) in
-    elim entry.1.is_open as (λ b. map (λ (e : SubName × Subscription). e.0) (if b then entry ∷ kept else kept) ≡ map (λ (f : SubName × Bool). f.0) (if b then face entry ∷ rest else rest)) [
+    let rest = filter (λ (f : Face). f.is_open) (map face subs) in
+    elim entry.1.is_open as (λ b. map (λ (e : SubName × Subscription). e.0) (if b then entry ∷ kept else kept) ≡ map (λ (f : Face). f.name) (if b then face entry ∷ rest else rest)) [
       | true ↦ ap (λ names. entry.0 ∷ names) same
       | false ↦ same
     ]
-
--- a record set that is open where the one before was
-stay-with_sub : (p : PlainPartition) (s : SubName) (old new : Subscription) → sub_at p s ≡ Some old → new.is_open ≡ old.is_open → faces (with_sub p s new) ≡ faces p
-stay-with_sub p s old new found as_before = with_value-map face same_sub s old new p.subs found (λ key. ap (λ (b : Bool). (key, b)) as_before)
 
 -- ---- Deliver
 
 stay-deliver_position : (p : PlainPartition) (s : SubName) (r : Subscription) (st : Grain) (next : Option ℕ) → sub_at p s ≡ Some r → StayIn p (deliver_position p s r st next)
 unfolding deliver_position
-stay-deliver_position p s r st None found = stay-with_sub p s r (caught_up p s r) found refl
+stay-deliver_position p s r st None found = (with_value-map face same_sub s r (caught_up p s r) p.subs found (λ key. refl), refl, refl)
 stay-deliver_position p s r st (Some position) found =
-    cond_both (nat_le MAILBOX_PLACES (length st.mailbox)) _ _ (StayIn p) (λ _. refl)
-    (λ _. cond_both (not st.active && is_spent p) _ _ (StayIn p) (λ _. refl)
-    (λ _. stay-with_sub p s r (record r { cursor = suc position }) found refl))
+    cond_both (nat_le MAILBOX_PLACES (length st.mailbox)) _ _ (StayIn p) (λ _. (refl, refl, refl))
+    (λ _. cond_both (not st.active && is_spent p) _ _ (StayIn p) (λ _. (refl, refl, refl))
+    (λ _. (with_value-map face same_sub s r (record r { cursor = suc position }) p.subs found (λ key. refl), refl, refl)))
 
 stay-deliver_to : (p : PlainPartition) (s : SubName) (found : Option Subscription) → sub_at p s ≡ found → StayIn p (deliver_to p s found)
 unfolding deliver_to
-stay-deliver_to p s None found = refl
+stay-deliver_to p s None found = (refl, refl, refl)
 stay-deliver_to p s (Some r) found =
-    cond_both (not r.is_open) _ _ (StayIn p) (λ _. refl) (λ _. stay-deliver_position p s r (grain_at p r.grain) (next_position p r) found)
+    cond_both (not r.is_open) _ _ (StayIn p) (λ _. (refl, refl, refl)) (λ _. stay-deliver_position p s r (grain_at p r.grain) (next_position p r) found)
 
-stay-deliver : (p : PlainPartition) (generation : ℕ) (s : SubName) → StayIn p (step p (Deliver generation s))
+pub stay-deliver : (p : PlainPartition) (generation : ℕ) (s : SubName) → StayIn p (step p (Deliver generation s))
 unfolding step deliver
-stay-deliver p generation s = cond_both (is_stale p generation) _ _ (StayIn p) (λ _. refl) (λ _. stay-deliver_to p s (sub_at p s) refl)
+stay-deliver p generation s = cond_both (is_stale p generation) _ _ (StayIn p) (λ _. (refl, refl, refl)) (λ _. stay-deliver_to p s (sub_at p s) refl)
 
 -- ---- Ack
 
 stay-ack_position : (p : PlainPartition) (s : SubName) (r : Subscription) (positions : List ℕ) → sub_at p s ≡ Some r → StayIn p (ack_position p s r positions)
 unfolding ack_position
-stay-ack_position p s r [] found = refl
-stay-ack_position p s r (position ∷ positions) found = stay-with_sub p s r (acknowledged r position) found refl
+stay-ack_position p s r [] found = (refl, refl, refl)
+stay-ack_position p s r (position ∷ positions) found = (with_value-map face same_sub s r (acknowledged r position) p.subs found (λ key. refl), refl, refl)
 
 stay-ack_of : (p : PlainPartition) (s : SubName) (token : Token) (found : Option Subscription) → sub_at p s ≡ found → StayIn p (ack_of p s token found)
 unfolding ack_of
-stay-ack_of p s token None found = refl
+stay-ack_of p s token None found = (refl, refl, refl)
 stay-ack_of p s token (Some r) found =
-    cond_both (not r.is_open) _ _ (StayIn p) (λ _. refl) (λ _. stay-ack_position p s r (handled_at p r token) found)
+    cond_both (not r.is_open) _ _ (StayIn p) (λ _. (refl, refl, refl)) (λ _. stay-ack_position p s r (handled_at p r token) found)
 
-stay-ack : (p : PlainPartition) (generation : ℕ) (s : SubName) (token : Token) → StayIn p (step p (Ack generation s token))
+pub stay-ack : (p : PlainPartition) (generation : ℕ) (s : SubName) (token : Token) → StayIn p (step p (Ack generation s token))
 unfolding step ack
-stay-ack p generation s token = cond_both (is_stale p generation) _ _ (StayIn p) (λ _. refl) (λ _. stay-ack_of p s token (sub_at p s) refl)
+stay-ack p generation s token = cond_both (is_stale p generation) _ _ (StayIn p) (λ _. (refl, refl, refl)) (λ _. stay-ack_of p s token (sub_at p s) refl)
 
 -- ---- Begin
 
 stay-begin_for : (p : PlainPartition) (g : GrainId) (size : ℕ) (st : Grain) (d : Delivery) (deliveries : List Delivery) (found : Option Subscription) → StayIn p (begin_for p g size st d deliveries found)
 unfolding begin_for begin_turn
-stay-begin_for p g size st d deliveries None = refl
+stay-begin_for p g size st d deliveries None = (refl, refl, refl)
 stay-begin_for p g size st d deliveries (Some r) =
-    cond_both (nat_lt d.position (past r.handled)) _ _ (StayIn p) (λ _. refl) (λ _. cond_both (is_spent p) _ _ (StayIn p) (λ _. refl) (λ _. refl))
+    cond_both (nat_lt d.position (past r.handled)) _ _ (StayIn p) (λ _. (refl, refl, refl)) (λ _. cond_both (is_spent p) _ _ (StayIn p) (λ _. (refl, refl, refl)) (λ _. (refl, refl, refl)))
 
 stay-begin_front : (p : PlainPartition) (g : GrainId) (size : ℕ) (st : Grain) (mailbox : List Delivery) → StayIn p (begin_front p g size st mailbox)
 unfolding begin_front
-stay-begin_front p g size st [] = refl
+stay-begin_front p g size st [] = (refl, refl, refl)
 stay-begin_front p g size st (d ∷ deliveries) = stay-begin_for p g size st d deliveries (sub_at p d.sub)
 
-stay-begin : (p : PlainPartition) (g : GrainId) (max_events : ℕ) → StayIn p (step p (Begin g max_events))
+pub stay-begin : (p : PlainPartition) (g : GrainId) (max_events : ℕ) → StayIn p (step p (Begin g max_events))
 unfolding step begin begin_in
 stay-begin p g max_events =
     let st = grain_at p g in
-    cond_both (is_some st.running) _ _ (StayIn p) (λ _. refl)
-    (λ _. cond_both (not st.active) _ _ (StayIn p) (λ _. refl) (λ _. stay-begin_front p g (turn_size max_events) st st.mailbox))
+    cond_both (is_some st.running) _ _ (StayIn p) (λ _. (refl, refl, refl))
+    (λ _. cond_both (not st.active) _ _ (StayIn p) (λ _. (refl, refl, refl)) (λ _. stay-begin_front p g (turn_size max_events) st st.mailbox))
 
 -- ---- Commit
 
 stay-commit_for : (p : PlainPartition) (g : GrainId) (st : Grain) (run : RunningTurn) (note : ℕ) (found : Option Subscription) → sub_at p run.sub ≡ found → StayIn p (commit_for p g st run note found)
 unfolding commit_for
-stay-commit_for p g st run note None found = refl
+stay-commit_for p g st run note None found = (refl, refl, refl)
 stay-commit_for p g st run note (Some r) found =
-    cond_both (not r.is_open) _ _ (StayIn p) (λ _. refl)
-    (λ _. with_value-map face same_sub run.sub r (record r { handled = r.handled ++ run.positions; note = note }) p.subs found (λ _. refl))
+    cond_both (not r.is_open) _ _ (StayIn p) (λ _. (refl, refl, refl))
+    (λ _. (with_value-map face same_sub run.sub r (record r { handled = r.handled ++ run.positions; note = note }) p.subs found (λ key. refl), refl, refl))
 
 stay-commit_running : (p : PlainPartition) (g : GrainId) (st : Grain) (activation turn note : ℕ) (running : Option RunningTurn) → StayIn p (commit_running p g st activation turn note running)
 unfolding commit_running
-stay-commit_running p g st activation turn note None = refl
+stay-commit_running p g st activation turn note None = (refl, refl, refl)
 stay-commit_running p g st activation turn note (Some run) =
-    cond_both ((activation == st.activation) && (turn == run.turn)) _ _ (StayIn p) (λ _. stay-commit_for p g st run note (sub_at p run.sub) refl) (λ _. refl)
+    cond_both ((activation == st.activation) && (turn == run.turn)) _ _ (StayIn p) (λ _. stay-commit_for p g st run note (sub_at p run.sub) refl) (λ _. (refl, refl, refl))
 
-stay-commit : (p : PlainPartition) (g : GrainId) (activation turn note : ℕ) → StayIn p (step p (Commit g activation turn note))
+pub stay-commit : (p : PlainPartition) (g : GrainId) (activation turn note : ℕ) → StayIn p (step p (Commit g activation turn note))
 unfolding step commit
 stay-commit p g activation turn note = stay-commit_running p g (grain_at p g) activation turn note (grain_at p g).running
 
@@ -129,7 +133,7 @@ abbrev Keeps : PlainPartition → Progress → Type 0
 Keeps p m = faces m.now ≡ faces p
 
 keeps-ask : (p : PlainPartition) (op : Op) (next : PlainPartition → Reply → Progress) → StayIn p (step p op) → ((q : PlainPartition) (answer : Reply) → Keeps q (next q answer)) → Keeps p (ask p op next)
-keeps-ask p op next stay after = after (step p op).0 (step p op).1 ∙ stay
+keeps-ask p op next stay after = after (step p op).0 (step p op).1 ∙ stay.0
 
 keeps-go_on : (p q : PlainPartition) (entries : List _) (end : Option draining.Stop) (next : PlainPartition → Progress) → faces q ≡ faces p → ((q : PlainPartition) → Keeps q (next q)) → Keeps p (go_on entries q end next)
 keeps-go_on p q entries None next first after = after q ∙ first
@@ -197,7 +201,7 @@ served-faces p q s ends = ap faces ends.0 ∙ keeps-serve s p (sub_at p s)
 pub served-keeps : (p q : PlainPartition) (s : SubName) → Ends p q (Some None) (serve s p (sub_at p s)) → open_names q ≡ open_names p
 served-keeps p q s ends =
     ap (in_order sub_lt)
-    (keys-of-faces q.subs ∙ ap (λ (fs : List (SubName × Bool)). map (λ (f : SubName × Bool). f.0) (filter (λ (f : SubName × Bool). f.1) fs)) (served-faces p q s ends) ∙ sym (keys-of-faces p.subs))
+    (keys-of-faces q.subs ∙ ap (λ (fs : List Face). map (λ (f : Face). f.name) (filter (λ (f : Face). f.is_open) fs)) (served-faces p q s ends) ∙ sym (keys-of-faces p.subs))
 
 pub served-names : (p q : PlainPartition) (s : SubName) → Ends p q (Some None) (serve s p (sub_at p s)) → names_of q ≡ names_of p
-served-names p q s ends = names-of-faces q.subs ∙ ap (map (λ (f : SubName × Bool). f.0)) (served-faces p q s ends) ∙ sym (names-of-faces p.subs)
+served-names p q s ends = names-of-faces q.subs ∙ ap (map (λ (f : Face). f.name)) (served-faces p q s ends) ∙ sym (names-of-faces p.subs)
