@@ -8,12 +8,9 @@ pub mod Finding
 pub mod Fronts
 pub mod Growing
 pub mod Histories
-pub mod Joining
 pub mod Made
 pub mod Misses
-pub mod OpPieces
 pub mod Placing
-pub mod Printable
 pub mod Printing
 pub mod Producers
 pub mod Progress

@@ -1,6 +1,6 @@
 use Rattle.script_runs.proofs.Prelude.{writes_then}
 use Rattle.stream_script.specs.Spelling.{stream_text}
-use Rattle.script_runs.proofs.Joining.{publish-joined}
+use Rattle.script_runs.proofs.Again.{publish-joined}
 use Rattle.script_runs.proofs.traces.write.push_publish.Goals as goal
 
 pub returns : goal.returns
