@@ -1,6 +1,7 @@
 -- What a stable sort gives is one list: the elements from the least to the greatest, with ties as they were.
-use Rattle.step_core.proofs.Prelude.{◌≡◌, ◌<◌, ◌≤◌, ℕ, suc, Bool, true, false, ◌==◌, ◌&&◌, not, cond, List, [], ◌∷◌, length, get_or, filter, refl, sym, ap, subst, ◌∙◌, arith, and_parts, cond_both, eqb-false, eqb-true, false_from_ne_true, not-true, IsStrictWeakOrder, AllByRecursion, ⊤, All-filter, in_order, insert_in_order}
+use Rattle.step_core.proofs.Prelude.{◌≡◌, ◌<◌, ◌≤◌, ℕ, suc, Bool, true, false, ◌==◌, ◌&&◌, not, cond, List, [], ◌∷◌, length, get_or, filter, refl, sym, ap, subst, ◌∙◌, arith, and_parts, cond_both, eqb-false, eqb-true, false_from_ne_true, not-true, IsStrictWeakOrder, AllByRecursion, ⊤, All-filter, All-weaken, in_order, insert_in_order}
 use Rattle.std.specs.List.Sorted.{ties, IsStableBy}
+use Rattle.stream_laws.proofs.KeyLists.{All-insert}
 
 -- the first of what passes is the first element, where that passes
 first_is : {X : Type 0} (t : X → Bool) (x y : X) (xs ys : List X) → t y ≡ true → x ∷ xs ≡ filter t (y ∷ ys) → x ≡ y
@@ -69,22 +70,12 @@ module _ {X : Type 0} (lt : X → X → Bool) (o : IsStrictWeakOrder lt) where
       let rest : ys ≡ xs = rises_once xs ys up.1 up'.1 behind in
       cc
 
-  NoneBelow-insert : (y x : X) (xs : List X) → lt x y ≡ false → NoneBelow y xs → NoneBelow y (insert_in_order lt x xs)
-  NoneBelow-insert y x [] here all = (here, tt)
-  NoneBelow-insert y x (z ∷ zs) here all =
-      cond_both (lt z x) (z ∷ insert_in_order lt x zs) (x ∷ z ∷ zs) (NoneBelow y) (λ _. (all.0, NoneBelow-insert y x zs here all.1)) (λ _. (here, all))
-
-  -- what isn't below y isn't below x, where y isn't
-  NoneBelow-under : (x y : X) (ys : List X) → lt y x ≡ false → NoneBelow y ys → NoneBelow x ys
-  NoneBelow-under x y [] under all = tt
-  NoneBelow-under x y (z ∷ zs) under all = (o.chain z y x all.0 under, NoneBelow-under x y zs under all.1)
-
   Rises-insert : (x : X) (xs : List X) → Rises xs → Rises (insert_in_order lt x xs)
   Rises-insert x [] up = (tt, tt)
   Rises-insert x (y ∷ ys) up =
       cond_both (lt y x) (y ∷ insert_in_order lt x ys) (x ∷ y ∷ ys) Rises
-      (λ below. (NoneBelow-insert y x ys (o.one_way y x below) up.0, Rises-insert x ys up.1))
-      (λ under. ((under, NoneBelow-under x y ys under up.0), up))
+      (λ below. (All-insert (λ (z : X). lt z y ≡ false) lt x ys (o.one_way y x below) up.0, Rises-insert x ys up.1))
+      (λ under. ((under, All-weaken (λ (z : X). lt z y ≡ false) (λ (z : X). lt z x ≡ false) (λ z above. o.chain z y x above under) ys up.0), up))
 
   Rises-in_order : (xs : List X) → Rises (in_order lt xs)
   Rises-in_order [] = tt
