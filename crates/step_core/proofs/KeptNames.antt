@@ -1,6 +1,6 @@
 -- To serve a subscription makes, opens and closes none: the names stay as they are, and so do those of the open ones.
-use Rattle.step_core.proofs.Prelude.{◌≡◌, ◌∙◌, ap, sym, refl, ℕ, zero, suc, ◌-◌, nat_lt, nat_le, ◌==◌, ◌&&◌, not, Bool, true, false, List, [], ◌∷◌, ◌++◌, length, filter, map, Option, Some, None, cond_both, turn_size, same_sub, sub_lt, keys_where, past, GrainId, StreamId, SubName, MAILBOX_PLACES, Token, Progress, after_ack, after_begin, after_commit, after_last_deliver, and_then, ask, go_on, in_order, last_handled, next_note, open_names, grain_at, is_spent, next_position, sub_at, acknowledged, is_stale, Reply, Op, Ack, Begin, Commit, Deliver, Grain, PlainPartition, Subscription}
-use Rattle.std.proofs.Common.{is_some, if◌then◌else◌}
+use Rattle.step_core.proofs.Prelude.{◌≡◌, ◌∙◌, ap, sym, refl, ℕ, zero, suc, ◌-◌, nat_lt, nat_le, ◌==◌, ◌&&◌, not, Bool, List, [], ◌∷◌, ◌++◌, length, filter, map, Option, Some, None, cond_both, turn_size, same_sub, sub_lt, keys_where, past, GrainId, StreamId, SubName, MAILBOX_PLACES, Token, Progress, after_ack, after_begin, after_commit, after_last_deliver, and_then, ask, go_on, in_order, last_handled, next_note, open_names, grain_at, is_spent, next_position, sub_at, acknowledged, is_stale, Reply, Op, Ack, Begin, Commit, Deliver, Grain, PlainPartition, Subscription}
+use Rattle.std.proofs.Common.{is_some}
 use Rattle.stream_model.specs.declared.plain.Delivery.{Delivery}
 use Rattle.stream_model.specs.declared.plain.RunningTurn.{RunningTurn}
 use Rattle.stream_model.specs.declared.reply.Reply.TheVariants as reply
@@ -12,6 +12,7 @@ use Rattle.stream_model.specs.Turns.{begin, begin_for, begin_front, begin_in, be
 use Rattle.step_core.specs.DrainPhases.{Ends}
 use Rattle.step_core.specs.Serving.{names_of}
 use Rattle.step_core.proofs.OnceOps.{with_value-map}
+use Rattle.step_core.proofs.Shared.{taken-alike}
 
 abbrev pub open_keys : PlainPartition → List SubName
 open_keys p = keys_where (λ (r : Subscription). r.is_open) p.subs
@@ -42,13 +43,7 @@ names-of-faces (entry ∷ subs) = ap (λ rest. entry.0 ∷ rest) (names-of-faces
 keys-of-faces : (subs : List (SubName × Subscription)) → keys_where (λ (r : Subscription). r.is_open) subs ≡ map (λ (f : Face). f.name) (filter (λ (f : Face). f.is_open) (map face subs))
 keys-of-faces [] = refl
 keys-of-faces (entry ∷ subs) =
-    let same = keys-of-faces subs in
-    let kept = filter (λ (e : SubName × Subscription). e.1.is_open) subs in
-    let rest = filter (λ (f : Face). f.is_open) (map face subs) in
-    elim entry.1.is_open as (λ b. map (λ (e : SubName × Subscription). e.0) (if b then entry ∷ kept else kept) ≡ map (λ (f : Face). f.name) (if b then face entry ∷ rest else rest)) [
-      | true ↦ ap (λ names. entry.0 ∷ names) same
-      | false ↦ same
-    ]
+    taken-alike (λ (e : SubName × Subscription). e.0) (λ (f : Face). f.name) (λ (e : SubName × Subscription). e.1.is_open) (λ (f : Face). f.is_open) entry (face entry) subs (map face subs) refl refl (keys-of-faces subs)
 
 -- ---- Deliver
 

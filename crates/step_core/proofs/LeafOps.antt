@@ -6,6 +6,7 @@ use Rattle.subscription_table.specs.Leaves as leaves
 use Rattle.step_core.specs.declared.parts.Parts.{Parts}
 use Rattle.step_core.specs.PlainOf.{plain_of}
 use Rattle.step_core.specs.View.{sub_of, subs_of}
+use Rattle.step_core.proofs.Shared.{taken-alike}
 
 abbrev resumes_in : List (SubName × Subscription) → List ℕ
 resumes_in subs = map (λ (entry : SubName × Subscription). entry.1.resume) (filter (λ (entry : SubName × Subscription). entry.1.is_open) subs)
@@ -49,15 +50,8 @@ names-of-leaves : (passes : Subscription → Bool) (test : NamedLeaf → Bool) (
 names-of-leaves passes test [] states same = refl
 names-of-leaves passes test (entry ∷ names) [] same = refl
 names-of-leaves passes test (entry ∷ names) (state ∷ states) same =
-    by (passes (sub_of entry state).1) (test (leaf_of entry state)) (same entry state) (names-of-leaves passes test names states same)
-  where
-    by : (b c : Bool) → b ≡ c → keys_where passes (subs_of names states) ≡ leaves.names_where test (leaves_of names states)
-        → map (λ (e : SubName × Subscription). e.0) (if b then sub_of entry state ∷ filter (λ e. passes e.1) (subs_of names states) else filter (λ e. passes e.1) (subs_of names states))
-        ≡ map (λ (leaf : NamedLeaf). leaf.name) (if c then leaf_of entry state ∷ filter test (leaves_of names states) else filter test (leaves_of names states))
-    by true true is rest = ap (λ ns. entry.0 ∷ ns) rest
-    by true false is rest = absurd (cc)
-    by false true is rest = absurd (cc)
-    by false false is rest = rest
+    taken-alike (λ (e : SubName × Subscription). e.0) (λ (leaf : NamedLeaf). leaf.name) (λ (e : SubName × Subscription). passes e.1) test (sub_of entry state) (leaf_of entry state) (subs_of names states) (leaves_of names states) (same entry state) refl
+    (names-of-leaves passes test names states same)
 
 -- the next that is due
 pub due-is : (parts : Parts) (after : Option SubName) → next_after sub_lt after (keys_where (is_due (plain_of parts)) (plain_of parts).subs) ≡ leaves.due_after (plain_of parts).high after (leaves_of parts.subs.registry.names parts.subs.states)

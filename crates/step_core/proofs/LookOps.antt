@@ -1,5 +1,5 @@
 -- What is asked, by the numbers of grains and of records.
-use Rattle.step_core.proofs.Prelude.{PlainActivation, is_unacknowledged, Registration, ◌≡◌, ◌∙◌, ap, sym, subst, refl, ℕ, ◌<◌, Bool, true, false, ◌&&◌, not, List, [], ◌∷◌, length, map, filter, Option, Some, None, pred, nat_lt, arith, length-map, AllByRecursion, if◌then◌else◌, All-at, is_some-map, grain_lt, keys_where, least, next_after, past, GrainId, SubName, Token, AreIn, IsWithinLimits, sub_at, Grain, Subscription, leaves_of, no_entry, no_state, state_at}
+use Rattle.step_core.proofs.Prelude.{PlainActivation, is_unacknowledged, Registration, ◌≡◌, ◌∙◌, ap, sym, subst, refl, ℕ, ◌<◌, Bool, ◌&&◌, not, List, [], ◌∷◌, length, Option, Some, None, pred, nat_lt, arith, length-map, AllByRecursion, if◌then◌else◌, All-at, is_some-map, grain_lt, keys_where, least, next_after, past, GrainId, SubName, Token, AreIn, IsWithinLimits, sub_at, Grain, Subscription, leaves_of, no_entry, no_state, state_at}
 use Rattle.stream_model.specs.declared.reply.Reply.TheVariants as reply
 use Rattle.stream_model.specs.Looks as plain
 use Rattle.grain_table.specs.Grains as grains
@@ -12,7 +12,7 @@ use Rattle.step_core.specs.PlainOf.{plain_of}
 use Rattle.step_core.specs.View.{delivery_of, grain_of, grains_of, sub_of, subs_of, turn_of}
 use Rattle.step_core.proofs.LeafOps.{due-is}
 use Rattle.step_core.proofs.NamesOps.{record-of-number}
-use Rattle.step_core.proofs.Shared.{name-same}
+use Rattle.step_core.proofs.Shared.{name-same, taken-alike}
 use Rattle.step_core.proofs.ViewLemmas.{record-at, records-length}
 
 -- ---- grains
@@ -21,15 +21,9 @@ use Rattle.step_core.proofs.ViewLemmas.{record-at, records-length}
 grains-where : (passes : Grain → Bool) (test : PlainActivation → Bool) (names : List (SubName × Registration)) (gs : List (GrainId × PlainActivation))
     → ((a : PlainActivation) → passes (grain_of names a) ≡ test a) → keys_where passes (grains_of names gs) ≡ keys_where test gs
 grains-where passes test names [] same = refl
-grains-where passes test names (entry ∷ gs) same = by (passes (grain_of names entry.1)) (test entry.1) (same entry.1) (grains-where passes test names gs same)
-  where
-    by : (b c : Bool) → b ≡ c → keys_where passes (grains_of names gs) ≡ keys_where test gs
-        → map (λ (e : GrainId × Grain). e.0) (if b then (entry.0, grain_of names entry.1) ∷ filter (λ e. passes e.1) (grains_of names gs) else filter (λ e. passes e.1) (grains_of names gs))
-        ≡ map (λ (e : GrainId × PlainActivation). e.0) (if c then entry ∷ filter (λ e. test e.1) gs else filter (λ e. test e.1) gs)
-    by true true is rest = ap (λ ids. entry.0 ∷ ids) rest
-    by true false is rest = absurd (cc)
-    by false true is rest = absurd (cc)
-    by false false is rest = rest
+grains-where passes test names (entry ∷ gs) same =
+    taken-alike (λ (e : GrainId × Grain). e.0) (λ (e : GrainId × PlainActivation). e.0) (λ (e : GrainId × Grain). passes e.1) (λ (e : GrainId × PlainActivation). test e.1) (entry.0, grain_of names entry.1) entry (grains_of names gs) gs (same entry.1) refl
+    (grains-where passes test names gs same)
 
 is-waiting : (names : List (SubName × Registration)) (a : PlainActivation) → plain.is_waiting (grain_of names a) ≡ grains.is_waiting a
 is-waiting names a = ap (λ n. nat_lt 0 n) (length-map a.mailbox (delivery_of names))

@@ -1,5 +1,5 @@
 -- What each operation starts from.
-use Rattle.step_core.proofs.Prelude.{AreUnique, Registration, high, ◌≡◌, subst, ℕ, ◌≤◌, true, List, length, get_or, slice_get-get_or, same_sub, SubName, IsReached, PlainPartition, refl, Bool, false, if◌then◌else◌}
+use Rattle.step_core.proofs.Prelude.{AreUnique, Registration, high, ◌≡◌, subst, ℕ, ◌≤◌, true, List, length, get_or, slice_get-get_or, same_sub, SubName, IsReached, PlainPartition, refl, Bool, false, if◌then◌else◌, ◌∙◌, ap, ◌∷◌, map, filter}
 use Rattle.std.proofs.Math.ListN.{get_or-map}
 use Rattle.std.specs.Prelude.{reverse}
 use Rattle.stream_laws.proofs.Invariant.{Fits}
@@ -18,6 +18,16 @@ use Rattle.step_core.specs.declared.parts.Parts.{Parts}
 pub ap-if : {A B : Type 0} (f : A → B) (b : Bool) (x y : A) → f (if b then x else y) ≡ (if b then f x else f y)
 ap-if f true x y = refl
 ap-if f false x y = refl
+
+-- one more of each list, which passes alike, and of which the same is taken
+pub taken-alike : {A B X : Type 0} (take : A → X) (read : B → X) (passes : A → Bool) (test : B → Bool) (x : A) (y : B) (xs : List A) (ys : List B) → passes x ≡ test y → take x ≡ read y
+    → map take (filter passes xs) ≡ map read (filter test ys) → map take (filter passes (x ∷ xs)) ≡ map read (filter test (y ∷ ys))
+taken-alike take read passes test x y xs ys same alike rest =
+    ap (λ b. map take (if b then x ∷ filter passes xs else filter passes xs)) same
+    ∙ (elim (test y) as (λ b. map take (if b then x ∷ filter passes xs else filter passes xs) ≡ map read (if b then y ∷ filter test ys else filter test ys)) [
+      | true ↦ λ i. alike i ∷ rest i
+      | false ↦ rest
+    ])
 
 -- the history of a partition, and what holds of both
 pub record HasHistory (p : PlainPartition) : Type 0 where
