@@ -1,6 +1,5 @@
 -- What a run prints, by what its script did and how its cluster has ended.
-use Rattle.script_runs.proofs.Prelude.{told_of, owns-foreign, LineView, QueuePass, places, asks-foreign, zip-at, turnstiles, AreAtQueues, ClusterView, HasFinished, IsAtQueue, IsConfig, IsNew, HasGoneOn, ◌≡◌, ℕ, suc, ◌+◌, inl, inr, true, List, [], ◌∷◌, ◌++◌, length, map, Contains, Some, refl, sym, ap, subst, ◌∙◌, add-one, arith, true≢false, append-nil, AllByRecursion, AllZip, flat_map, range_with_len, slice_get, All-weaken, is_producer, Reply, Op, PlainPartition, queue_report, report_from, numbers_of, Entry}
-use Rattle.std.proofs.Common.{codes}
+use Rattle.script_runs.proofs.Prelude.{told_of, owns-foreign, LineView, QueuePass, places, asks-foreign, zip-at, turnstiles, AreAtQueues, ClusterView, HasFinished, IsAtQueue, IsConfig, IsNew, HasGoneOn, ◌≡◌, ℕ, suc, ◌+◌, inl, inr, true, List, [], ◌∷◌, ◌++◌, length, map, Contains, Some, refl, sym, ap, subst, ◌∙◌, add-one, arith, true≢false, append-nil, AllByRecursion, AllZip, flat_map, range_with_len, slice_get, All-weaken, is_producer, Reply, Op, PlainPartition, queue_report, report_from, numbers_of, Entry, codes}
 use Rattle.std.proofs.lemmas.Slice.Zip.{AllZip-long}
 use Rattle.stream_model.specs.Looks.{quiet}
 use Rattle.silo_threads.specs.declared.ending.finishing.Finished.{Finished}

@@ -1,6 +1,5 @@
 -- What a call puts into room for the events of a turn.
-use Rattle.silo_threads.proofs.Prelude.{Reply}
-use Rattle.std.specs.Prelude.{◌≤◌, vec_capacity}
+use Rattle.silo_threads.proofs.Prelude.{Reply, ◌≤◌, vec_capacity}
 use Rattle.std.specs.Global.{Vec}
 use Rattle.stream_ident.specs.declared.event.Event.{Event}
 use Rattle.stream_ident.specs.declared.limits.TheConstants.{TURN_EVENTS}

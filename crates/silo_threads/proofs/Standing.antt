@@ -1,9 +1,8 @@
 -- What a change of silos leaves.
-use Rattle.silo_threads.proofs.Prelude.{IsBalanced, goes-length, goes-places, goes-refl, goes-trans, on-refl, split-places, still-at, taken-silo, DirectoryPass, LineView, QueuePass, places, IsOtherIn, OwnsNone, AreSilent, AreTakenIn, GoOn, GoesOn, HasRun, IsFresh, IsSilent, IsSiloAt, IsSplitLine, LineGoesOn, SiloView, ◌≡◌, ◌⊎◌, inl, inr, ℕ, zero, suc, ◌<◌, ◌≤◌, ◌+◌, Bool, true, false, List, [], ◌∷◌, ◌++◌, length, drop, get_or, map, remove, Contains, Some, Result, Ok, Err, refl, sym, ap, subst, ◌∙◌, arith, get_or-map, length-append, length-map, length_push, map-append, slice_get-get_or, slice_get_within, AllByRecursion, AllZip, range_with_len, slice_index, unwrap_or, replicate, ◌||◌, AllocError, All-push, All-weaken, map-id, Reply, Op, Entry}
+use Rattle.silo_threads.proofs.Prelude.{IsBalanced, goes-length, goes-places, goes-refl, goes-trans, on-refl, split-places, still-at, taken-silo, DirectoryPass, LineView, QueuePass, places, IsOtherIn, OwnsNone, AreSilent, AreTakenIn, GoOn, GoesOn, HasRun, IsFresh, IsSilent, IsSiloAt, IsSplitLine, LineGoesOn, SiloView, ◌≡◌, ◌⊎◌, inl, inr, ℕ, zero, suc, ◌<◌, ◌≤◌, ◌+◌, Bool, true, false, List, [], ◌∷◌, ◌++◌, length, drop, get_or, map, remove, Contains, Some, Result, Ok, Err, refl, sym, ap, subst, ◌∙◌, arith, get_or-map, length-append, length-map, length_push, map-append, slice_get-get_or, slice_get_within, AllByRecursion, AllZip, range_with_len, slice_index, unwrap_or, replicate, ◌||◌, AllocError, All-push, All-weaken, map-id, Reply, Op, Entry, IfOk, OnOk}
 use Rattle.std.proofs.lemmas.List.Edits.{length-remove}
 use Rattle.std.proofs.lemmas.List.FromFn.{get_or-range_with_len, length-range_with_len, map-range_with_len_more}
 use Rattle.std.specs.List.{slice_get}
-use Rattle.std.specs.Prelude.{IfOk, OnOk}
 use Rattle.activation_directory.specs.declared.op.DirectoryOp.{DirectoryOp}
 use Rattle.activation_directory.specs.declared.reply.DirectoryReply.{DirectoryReply}
 use Rattle.silo_threads.specs.Calls.{IsUnused, turnstiles}
