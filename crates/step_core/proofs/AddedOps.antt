@@ -1,6 +1,5 @@
 -- A subscription that is added leaves parts that agree with each other.
-use Rattle.step_core.proofs.Prelude.{PlainRegistry, add_with, is_full, next_number, registered, with_name, Registration, Added, ◌≡◌, ◌∙◌, ap, sym, subst, refl, ℕ, suc, ◌+◌, ◌^◌, ◌<◌, ◌≤◌, Bool, true, false, ◌||◌, nat_le, ◌∷◌, ◌++◌, length, Option, None, Some, arith, false_from_ne_true, leb-true, length-append, if◌then◌else◌, GrainId, StreamId, SubName, MOST_SUBS, Token, Reply, takes_memory, PlainPartition, AreRecords, PlainTable, subscribe, subscribed, []}
-use Rattle.std.proofs.Common.{is_some}
+use Rattle.step_core.proofs.Prelude.{PlainRegistry, add_with, is_full, next_number, registered, with_name, Registration, Added, ◌≡◌, ◌∙◌, ap, sym, subst, refl, ℕ, suc, ◌+◌, ◌^◌, ◌<◌, ◌≤◌, Bool, true, false, ◌||◌, nat_le, ◌∷◌, ◌++◌, length, Option, None, Some, arith, false_from_ne_true, leb-true, length-append, if◌then◌else◌, GrainId, StreamId, SubName, MOST_SUBS, Token, Reply, takes_memory, PlainPartition, AreRecords, PlainTable, subscribe, subscribed, [], is_some}
 use Rattle.stream_ident.specs.declared.ident.SubName.TheVariants as name
 use Rattle.stream_model.specs.Publishing as plain
 use Rattle.step_core.specs.Assembly.{Agrees, IsAssembled}

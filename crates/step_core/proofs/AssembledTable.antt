@@ -1,6 +1,5 @@
 -- Parts agree with each other after what leaves the numbers of the names as they are.
-use Rattle.step_core.proofs.Prelude.{PlainActivation, AreDistinct, AreUnique, ◌≡◌, ◌∙◌, sym, subst, length, List, [], ◌∷◌, AllByRecursion, AllocError, Performs, GrainId, within-after, reached-after, reached-leads, IsWithinLimits, Entry, Reply, Leads, Op, PlainPartition, AreRecords, PlainTable}
-use Rattle.std.proofs.Common.{Result}
+use Rattle.step_core.proofs.Prelude.{PlainActivation, AreDistinct, AreUnique, ◌≡◌, ◌∙◌, sym, subst, length, List, [], ◌∷◌, AllByRecursion, AllocError, Performs, GrainId, within-after, reached-after, reached-leads, IsWithinLimits, Entry, Reply, Leads, Op, PlainPartition, AreRecords, PlainTable, Result}
 use Rattle.stream_model.specs.Step.{step}
 use Rattle.stream_model.proofs.StepBounds.{bounds-step}
 use Rattle.step_core.specs.Assembly.{Agrees, IsAssembled}

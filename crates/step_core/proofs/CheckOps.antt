@@ -1,6 +1,5 @@
 -- Whether an agent was replaced.
-use Rattle.step_core.proofs.Prelude.{PlainAgent, answered, StaleAgent, ◌≡◌, refl, subst, sym, ℕ, Bool, true, false, ◌==◌, if◌then◌else◌, Result, Err}
-use Rattle.std.specs.Prelude.{Ok}
+use Rattle.step_core.proofs.Prelude.{PlainAgent, answered, StaleAgent, ◌≡◌, refl, subst, sym, ℕ, Bool, true, false, ◌==◌, if◌then◌else◌, Result, Err, Ok}
 
 -- the caller named another generation
 pub record IsReplaced (a : PlainAgent) (generation : ℕ) (stale : StaleAgent) : Type 0 where

@@ -1,6 +1,5 @@
 -- An agent delivers, done by the parts.
-use Rattle.step_core.proofs.Prelude.{lower_in, next_in, PlainActivation, new_activation, next_activation, woken, advanced, caught_up, Delivery, activation_at, no_grain, PlainGrains, Registration, high, bare, ◌≡◌, ◌∙◌, ap, ap₂, sym, refl, ℕ, zero, suc, ◌≤◌, Bool, true, false, ◌&&◌, not, List, [], ◌∷◌, length, take, drop, max, Some, None, ◌==◌, nat_le, arith, take-nil, drop-drop, drop-map, map-append, length-map, if◌then◌else◌, unwrap_or, is_owed, same_grain, same_sub, token_lt, change_at, first_at, place_of, Event, SubName, MAILBOX_PLACES, Token, between, grain_at, is_outstanding, is_spent, lower_bound, next_position, token_at, with_grain, with_sub, Reply, PlainPartition, Subscription, no_entry, no_state, state_at, with_state}
-use Rattle.std.specs.Prelude.{◌-◌}
+use Rattle.step_core.proofs.Prelude.{lower_in, next_in, PlainActivation, new_activation, next_activation, woken, advanced, caught_up, Delivery, activation_at, no_grain, PlainGrains, Registration, high, bare, ◌≡◌, ◌∙◌, ap, ap₂, sym, refl, ℕ, zero, suc, ◌≤◌, Bool, true, false, ◌&&◌, not, List, [], ◌∷◌, length, take, drop, max, Some, None, ◌==◌, nat_le, arith, take-nil, drop-drop, drop-map, map-append, length-map, if◌then◌else◌, unwrap_or, is_owed, same_grain, same_sub, token_lt, change_at, first_at, place_of, Event, SubName, MAILBOX_PLACES, Token, between, grain_at, is_outstanding, is_spent, lower_bound, next_position, token_at, with_grain, with_sub, Reply, PlainPartition, Subscription, no_entry, no_state, state_at, with_state, ◌-◌}
 use Rattle.stream_model.specs.declared.reply.Reply.TheVariants as reply
 use Rattle.stream_model.specs.Pulling as plain
 use Rattle.grain_table.specs.Grains as table

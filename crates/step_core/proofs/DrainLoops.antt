@@ -1,6 +1,5 @@
 -- The loops of a drain: what is left to do from here, and that one round more leaves the same.
-use Rattle.step_core.proofs.Prelude.{◌≡◌, ◌∙◌, ap, refl, subst, ℕ, zero, suc, Bool, true, false, Option, Some, None, Ok, GrainId, SubName, Astray, Progress, ask, least_waiting, deliver_up_to, Deliver, Pull, PlainPartition}
-use Rattle.std.proofs.Common.{Err}
+use Rattle.step_core.proofs.Prelude.{◌≡◌, ◌∙◌, ap, refl, subst, ℕ, zero, suc, Bool, true, false, Option, Some, None, Ok, GrainId, SubName, Astray, Progress, ask, least_waiting, deliver_up_to, Deliver, Pull, PlainPartition, Err}
 use Rattle.stream_model.specs.Draining as draining
 use Rattle.stream_model.specs.Draining.{after_deliver, after_pull, take_turn, take_turns}
 use Rattle.step_core.specs.declared.draining.Stop.{Stop}

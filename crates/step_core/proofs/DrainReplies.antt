@@ -1,6 +1,5 @@
 -- What a drain does after each reply, by what the program reads of it.
-use Rattle.step_core.proofs.Prelude.{◌≡◌, ◌∙◌, ap, sym, refl, ℕ, zero, suc, Bool, GrainId, SubName, Astray, Progress, after_ack, after_last_deliver, and_then, ask, done, drain_round, stopped, deliver_up_to, Reply, Pull, PlainPartition}
-use Rattle.std.proofs.Common.{if◌then◌else◌}
+use Rattle.step_core.proofs.Prelude.{◌≡◌, ◌∙◌, ap, sym, refl, ℕ, zero, suc, Bool, GrainId, SubName, Astray, Progress, after_ack, after_last_deliver, and_then, ask, done, drain_round, stopped, deliver_up_to, Reply, Pull, PlainPartition, if◌then◌else◌}
 use Rattle.stream_model.specs.declared.reply.Reply.TheVariants as reply
 use Rattle.stream_model.specs.Draining.{after_deliver, after_pull, take_turn}
 use Rattle.step_core.specs.DrainPhases.{deliver_told, is_acknowledged, is_nothing, pull_told}

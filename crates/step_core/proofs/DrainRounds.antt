@@ -1,6 +1,5 @@
 -- The phases of a round of a drain, and what a drain is where no turn runs.
-use Rattle.step_core.proofs.Prelude.{◌≡◌, ◌∙◌, ap, sym, refl, subst, ℕ, ◌-◌, List, [], ◌∷◌, Option, Some, None, Ok, length, append_assoc, AllocError, grain_lt, keys_where, least, IsPrefixOf, GrainId, SubName, Astray, DrainsTo, commits, done, drain_end, drain_where, Entry, is_running, sub_at, IsReached, Leads, PlainPartition, Subscription}
-use Rattle.std.proofs.Common.{Err}
+use Rattle.step_core.proofs.Prelude.{◌≡◌, ◌∙◌, ap, sym, refl, subst, ℕ, ◌-◌, List, [], ◌∷◌, Option, Some, None, Ok, length, append_assoc, AllocError, grain_lt, keys_where, least, IsPrefixOf, GrainId, SubName, Astray, DrainsTo, commits, done, drain_end, drain_where, Entry, is_running, sub_at, IsReached, Leads, PlainPartition, Subscription, Err}
 use Rattle.stream_model.specs.declared.drain_end.DrainEnd.{DrainEnd}
 use Rattle.stream_model.specs.declared.drain_end.DrainEnd.TheVariants as ending
 use Rattle.stream_model.specs.Draining as draining

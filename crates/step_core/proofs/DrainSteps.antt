@@ -1,6 +1,5 @@
 -- A phase of a drain, put together from the operations and phases that it is made of.
-use Rattle.step_core.proofs.Prelude.{◌≡◌, ◌∙◌, ap, sym, refl, subst, Bool, true, false, List, [], ◌∷◌, ◌++◌, Option, Some, None, Ok, append_assoc, IsPrefixOf, leads-append, AtTooMany, AtSpent, Astray, Progress, and_then, ask, done, go_on, joined, stopped, Entry, may_allocate, Reply, Leads, Op, PlainPartition}
-use Rattle.std.proofs.Common.{Result, Err}
+use Rattle.step_core.proofs.Prelude.{◌≡◌, ◌∙◌, ap, sym, refl, subst, Bool, true, false, List, [], ◌∷◌, ◌++◌, Option, Some, None, Ok, append_assoc, IsPrefixOf, leads-append, AtTooMany, AtSpent, Astray, Progress, and_then, ask, done, go_on, joined, stopped, Entry, may_allocate, Reply, Leads, Op, PlainPartition, Result, Err}
 use Rattle.stream_model.specs.Draining as draining
 use Rattle.stream_model.specs.Step.{step}
 use Rattle.step_core.specs.declared.draining.Stop.{Stop}

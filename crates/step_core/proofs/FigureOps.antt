@@ -1,6 +1,5 @@
 -- The figures of a queue and of a subscription are those of the plain partition.
-use Rattle.step_core.proofs.Prelude.{Plan, StaleAgent, ◌≡◌, ◌∙◌, ap, sym, refl, ℕ, ◌+◌, ◌-◌, ◌*◌, Bool, true, false, List, length, Option, Some, None, if◌then◌else◌, unwrap_or, Result, Err, SubName, BLOCK_EVENTS, Token, between, slowest, slowest_name, token_at, pull, subs_with, Reply, PlainPartition, Subscription}
-use Rattle.std.specs.Prelude.{nat_lt, Ok}
+use Rattle.step_core.proofs.Prelude.{Plan, StaleAgent, ◌≡◌, ◌∙◌, ap, sym, refl, ℕ, ◌+◌, ◌-◌, ◌*◌, Bool, true, false, List, length, Option, Some, None, if◌then◌else◌, unwrap_or, Result, Err, SubName, BLOCK_EVENTS, Token, between, slowest, slowest_name, token_at, pull, subs_with, Reply, PlainPartition, Subscription, nat_lt, Ok}
 use Rattle.stream_ident.specs.declared.ident.SubName.TheVariants as name
 use Rattle.stream_model.specs.declared.reply.Reply.TheVariants as reply
 use Rattle.stream_model.specs.Pulling.{pull_events}

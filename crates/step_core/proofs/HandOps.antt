@@ -1,7 +1,6 @@
 -- What is known where an agent hands an event over, and what the calls of the parts make of it.
-use Rattle.step_core.proofs.Prelude.{next_in, PlainActivation, holds, runs, new_activation, next_activation, offered, offer_takes_memory, with_number, woken, advanced, caught_up, RunningTurn, Delivery, SubState, OffersAt, activation_at, no_grain, PlainGrains, number_of, AreIdle, done-current, if_current, next_at, next_event, StaleAgent, PlainCache, high, ◌≡◌, ◌∙◌, ap, ap₂, sym, subst, refl, ℕ, suc, ◌+◌, ◌^◌, ◌<◌, ◌≤◌, max, Bool, true, false, ◌&&◌, ◌||◌, not, List, [], ◌∷◌, length, set, Option, Some, None, ◌==◌, nat_le, nat_lt, arith, and_from, and_parts, eqb-true, le-ltb, not-true, set-get_or, length-map, list_any, AllByRecursion, option_map, if◌then◌else◌, Result, OnErr, AllocError, All-append, place_of-key, same_grain-refl, All-at, same_grain, same_sub, change_at, past, place_of, Performs, GrainId, StreamId, SubName, MAILBOX_PLACES, on-error, place_of-within, is_untouched, is_outstanding, is_spent, next_position, running_in, sub_at, token_at, waiting_in, Reply, takes_memory, Grain, PlainPartition, Subscription, PlainTable, no_entry, no_state, registration_at, state_at, stepped, with_state, cond_both}
+use Rattle.step_core.proofs.Prelude.{next_in, PlainActivation, holds, runs, new_activation, next_activation, offered, offer_takes_memory, with_number, woken, advanced, caught_up, RunningTurn, Delivery, SubState, OffersAt, activation_at, no_grain, PlainGrains, number_of, AreIdle, done-current, if_current, next_at, next_event, StaleAgent, PlainCache, high, ◌≡◌, ◌∙◌, ap, ap₂, sym, subst, refl, ℕ, suc, ◌+◌, ◌^◌, ◌<◌, ◌≤◌, max, Bool, true, false, ◌&&◌, ◌||◌, not, List, [], ◌∷◌, length, set, Option, Some, None, ◌==◌, nat_le, nat_lt, arith, and_from, and_parts, eqb-true, le-ltb, not-true, set-get_or, length-map, list_any, AllByRecursion, option_map, if◌then◌else◌, Result, OnErr, AllocError, All-append, place_of-key, same_grain-refl, All-at, same_grain, same_sub, change_at, past, place_of, Performs, GrainId, StreamId, SubName, MAILBOX_PLACES, on-error, place_of-within, is_untouched, is_outstanding, is_spent, next_position, running_in, sub_at, token_at, waiting_in, Reply, takes_memory, Grain, PlainPartition, Subscription, PlainTable, no_entry, no_state, registration_at, state_at, stepped, with_state, cond_both, Ok}
 use Rattle.std.proofs.Common.{eq-eqb}
-use Rattle.std.specs.Prelude.{Ok}
 use Rattle.std.proofs.Math.Bool.{or-false}
 use Rattle.stream_model.specs.declared.reply.Reply.TheVariants as reply
 use Rattle.stream_model.specs.Positions.{is_unacknowledged}

@@ -1,6 +1,5 @@
 -- To serve a subscription makes, opens and closes none: the names stay as they are, and so do those of the open ones.
-use Rattle.step_core.proofs.Prelude.{◌≡◌, ◌∙◌, ap, sym, refl, ℕ, zero, suc, ◌-◌, nat_lt, nat_le, ◌==◌, ◌&&◌, not, Bool, List, [], ◌∷◌, ◌++◌, length, filter, map, Option, Some, None, cond_both, turn_size, same_sub, sub_lt, keys_where, past, GrainId, StreamId, SubName, MAILBOX_PLACES, Token, Progress, after_ack, after_begin, after_commit, after_last_deliver, and_then, ask, go_on, in_order, last_handled, next_note, open_names, grain_at, is_spent, next_position, sub_at, acknowledged, is_stale, Reply, Op, Ack, Begin, Commit, Deliver, Grain, PlainPartition, Subscription}
-use Rattle.std.proofs.Common.{is_some}
+use Rattle.step_core.proofs.Prelude.{◌≡◌, ◌∙◌, ap, sym, refl, ℕ, zero, suc, ◌-◌, nat_lt, nat_le, ◌==◌, ◌&&◌, not, Bool, List, [], ◌∷◌, ◌++◌, length, filter, map, Option, Some, None, cond_both, turn_size, same_sub, sub_lt, keys_where, past, GrainId, StreamId, SubName, MAILBOX_PLACES, Token, Progress, after_ack, after_begin, after_commit, after_last_deliver, and_then, ask, go_on, in_order, last_handled, next_note, open_names, grain_at, is_spent, next_position, sub_at, acknowledged, is_stale, Reply, Op, Ack, Begin, Commit, Deliver, Grain, PlainPartition, Subscription, is_some}
 use Rattle.stream_model.specs.declared.plain.Delivery.{Delivery}
 use Rattle.stream_model.specs.declared.plain.RunningTurn.{RunningTurn}
 use Rattle.stream_model.specs.declared.reply.Reply.TheVariants as reply

@@ -1,6 +1,5 @@
 -- What grains know where records are closed.
-use Rattle.step_core.proofs.Prelude.{PlainActivation, forgotten, runs, without_number, Delivery, SubState, activation_at, closed_registration, Registration, ◌≡◌, ◌≢◌, ◌∙◌, ap, sym, subst, refl, ℕ, zero, suc, ◌<◌, Bool, true, false, ◌||◌, not, List, [], ◌∷◌, length, filter, get_or, inl, eqb-true, false≢true, ne_eqb, or_from, or_parts, list_any, if◌then◌else◌, same_grain, same_sub, change_at, changed_value, GrainId, SubName, is_in, no_entry, no_state}
-use Rattle.std.specs.Prelude.{◌==◌}
+use Rattle.step_core.proofs.Prelude.{PlainActivation, forgotten, runs, without_number, Delivery, SubState, activation_at, closed_registration, Registration, ◌≡◌, ◌≢◌, ◌∙◌, ap, sym, subst, refl, ℕ, zero, suc, ◌<◌, Bool, true, false, ◌||◌, not, List, [], ◌∷◌, length, filter, get_or, inl, eqb-true, false≢true, ne_eqb, or_from, or_parts, list_any, if◌then◌else◌, same_grain, same_sub, change_at, changed_value, GrainId, SubName, is_in, no_entry, no_state, ◌==◌}
 use Rattle.grain_table.specs.Changes.{grain_at}
 use Rattle.step_core.specs.Known.{AreKnown, IsOf}
 use Rattle.step_core.proofs.KnownOps.{becomes-changed, known-becomes}

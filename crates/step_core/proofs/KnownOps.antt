@@ -1,7 +1,6 @@
 -- What each change leaves of what the grains know.
-use Rattle.step_core.proofs.Prelude.{PlainActivation, holds, new_activation, runs, with_number, woken, Delivery, SubState, activation_at, no_grain, Registration, ◌≡◌, ◌≢◌, ◌⊎◌, ◌∙◌, ap, sym, subst, refl, ℕ, zero, suc, ◌<◌, Bool, true, false, ◌||◌, nat_lt, List, [], ◌∷◌, ◌++◌, length, map, get_or, set, Some, None, arith, inl, inr, cases_eq, eq-eqb, eqb-true, false≢true, ne_eqb, or_from, or_parts, get_or-map, get_or-set_other, get_or-set_same, get_or_append_left, length-append, list_any, if◌then◌else◌, first_at-None, place_of-key, same_grain-equal, same_grain-refl, length-change_at, set-change_at, same_grain, change_at, place_of, GrainId, SubName, place_of-within, is_in, no_entry, no_state, rewound_open}
+use Rattle.step_core.proofs.Prelude.{PlainActivation, holds, new_activation, runs, with_number, woken, Delivery, SubState, activation_at, no_grain, Registration, ◌≡◌, ◌≢◌, ◌⊎◌, ◌∙◌, ap, sym, subst, refl, ℕ, zero, suc, ◌<◌, Bool, true, false, ◌||◌, nat_lt, List, [], ◌∷◌, ◌++◌, length, map, get_or, set, Some, None, arith, inl, inr, cases_eq, eq-eqb, eqb-true, false≢true, ne_eqb, or_from, or_parts, get_or-map, get_or-set_other, get_or-set_same, get_or_append_left, length-append, list_any, if◌then◌else◌, first_at-None, place_of-key, same_grain-equal, same_grain-refl, length-change_at, set-change_at, same_grain, change_at, place_of, GrainId, SubName, place_of-within, is_in, no_entry, no_state, rewound_open, ◌==◌}
 use Rattle.std.proofs.lemmas.List.Folds.{list_any-append}
-use Rattle.std.specs.Prelude.{◌==◌}
 use Rattle.grain_table.specs.Changes.{grain_at}
 use Rattle.step_core.specs.Known.{AreKnown, IsOf, IsUnheld, IsUnknown, IsUntouched}
 use Rattle.grain_table.specs.Grains as table

@@ -1,6 +1,5 @@
 -- What grains know where records are added, where turns begin and end, and where a grain leaves memory.
-use Rattle.step_core.proofs.Prelude.{PlainActivation, front_of, holds, runs, RunningTurn, Delivery, SubState, Begun, activation_at, no_grain, Registration, ◌≡◌, ◌⊎◌, ◌∙◌, ap, sym, subst, refl, ℕ, zero, suc, ◌+◌, ◌-◌, ◌<◌, ◌≤◌, Bool, true, false, ◌&&◌, not, List, [], ◌∷◌, ◌++◌, length, drop, get_or, Option, Some, None, nat_lt, arith, inl, inr, cases_lt, cond_both, false≢true, ne_eqb, or_from, or_parts, get_or-append-add, get_or-map, get_or_append_left, length-append, AllByRecursion, list_any, if◌then◌else◌, is_some, place_of-key, same_grain-equal, same_grain-refl, All-at, turn_size, same_grain, place_of, GrainId, SubName, place_of-within, rewound_where, is_open_of, PlainTable, is_in, new_states, no_entry, no_state, rewound_open, state_at, AreRewound}
-use Rattle.std.specs.Prelude.{◌==◌}
+use Rattle.step_core.proofs.Prelude.{PlainActivation, front_of, holds, runs, RunningTurn, Delivery, SubState, Begun, activation_at, no_grain, Registration, ◌≡◌, ◌⊎◌, ◌∙◌, ap, sym, subst, refl, ℕ, zero, suc, ◌+◌, ◌-◌, ◌<◌, ◌≤◌, Bool, true, false, ◌&&◌, not, List, [], ◌∷◌, ◌++◌, length, drop, get_or, Option, Some, None, nat_lt, arith, inl, inr, cases_lt, cond_both, false≢true, ne_eqb, or_from, or_parts, get_or-append-add, get_or-map, get_or_append_left, length-append, AllByRecursion, list_any, if◌then◌else◌, is_some, place_of-key, same_grain-equal, same_grain-refl, All-at, turn_size, same_grain, place_of, GrainId, SubName, place_of-within, rewound_where, is_open_of, PlainTable, is_in, new_states, no_entry, no_state, rewound_open, state_at, AreRewound, ◌==◌}
 use Rattle.consumer_grain.specs.Activations.{begin, begin_front, begin_turn}
 use Rattle.consumer_grain.specs.declared.told.Begun.TheVariants as begun
 use Rattle.grain_table.specs.Changes.{grain_at}

@@ -1,6 +1,5 @@
 -- The slowest subscription and those that are due, by their leaves.
-use Rattle.step_core.proofs.Prelude.{is_unacknowledged, SubState, Registration, ◌≡◌, ◌∙◌, ap, refl, ℕ, min, Bool, true, false, ◌&&◌, ◌||◌, List, [], ◌∷◌, map, filter, Option, Some, None, nat_lt, arith, if◌then◌else◌, unwrap_or, sub_lt, keys_where, least_with, next_after, SubName, is_due, least_or, open_resumes, slowest, Subscription, NamedLeaf, leaf_of, leaves_of, open_resume}
-use Rattle.std.proofs.Common.{is_some}
+use Rattle.step_core.proofs.Prelude.{is_unacknowledged, SubState, Registration, ◌≡◌, ◌∙◌, ap, refl, ℕ, min, Bool, true, false, ◌&&◌, ◌||◌, List, [], ◌∷◌, map, filter, Option, Some, None, nat_lt, arith, if◌then◌else◌, unwrap_or, sub_lt, keys_where, least_with, next_after, SubName, is_due, least_or, open_resumes, slowest, Subscription, NamedLeaf, leaf_of, leaves_of, open_resume, is_some}
 use Rattle.ranked_index.specs.Keys.{lesser_key}
 use Rattle.subscription_table.specs.Leaves as leaves
 use Rattle.step_core.specs.declared.parts.Parts.{Parts}

@@ -1,6 +1,5 @@
 -- Blocks are dropped and agents replaced, done by the parts.
-use Rattle.step_core.proofs.Prelude.{SubState, Registration, PlainCache, high, ◌≡◌, ◌∙◌, ap, sym, ℕ, suc, ◌+◌, ◌*◌, ◌<◌, ◌≤◌, min, true, List, length, get_or, ◌==◌, nat_le, arith, length-drop, if◌then◌else◌, ◌/◌, least_with, SubName, BLOCK_EVENTS, open_resumes, slowest, token_at, Reply, PlainPartition}
-use Rattle.std.specs.Prelude.{◌-◌}
+use Rattle.step_core.proofs.Prelude.{SubState, Registration, PlainCache, high, ◌≡◌, ◌∙◌, ap, sym, ℕ, suc, ◌+◌, ◌*◌, ◌<◌, ◌≤◌, min, true, List, length, get_or, ◌==◌, nat_le, arith, length-drop, if◌then◌else◌, ◌/◌, least_with, SubName, BLOCK_EVENTS, open_resumes, slowest, token_at, Reply, PlainPartition, ◌-◌}
 use Rattle.stream_model.specs.declared.reply.Reply.TheVariants as reply
 use Rattle.stream_model.specs.Pulling as plain
 use Rattle.pulling_agent.specs.Agent as agent

@@ -1,6 +1,5 @@
 -- What comes of an operation that begins no turn.
-use Rattle.step_core.proofs.Prelude.{◌≡◌, [], List, Ok, subst, ap, sym, ◌∙◌, refl, IfOk, OnErr, AllocError, Performs, Event, IsNoTurn, Reply, PlainPartition}
-use Rattle.std.proofs.Common.{Result, Err}
+use Rattle.step_core.proofs.Prelude.{◌≡◌, [], List, Ok, subst, ap, sym, ◌∙◌, refl, IfOk, OnErr, AllocError, Performs, Event, IsNoTurn, Reply, PlainPartition, Result, Err}
 use Rattle.stream_ident.specs.Event.{events_at}
 use Rattle.stream_model.specs.declared.reply.Reply.TheVariants as reply
 use Rattle.stream_model.proofs.Retyping.{with-any}

@@ -1,7 +1,5 @@
 -- What an agent plans to pull is what the plain pull does.
-use Rattle.step_core.proofs.Prelude.{SubState, Registration, Plan, StaleAgent, ◌≡◌, ◌∙◌, ap, sym, refl, ℕ, ◌+◌, ◌-◌, ◌*◌, min, Bool, true, false, ◌&&◌, List, [], ◌∷◌, length, map, filter, Option, Some, None, ◌==◌, arith, not, if◌then◌else◌, unwrap_or, Err, pull_size, sub_lt, keys_where, least, has_number, SubName, BLOCK_EVENTS, pull-stale, slowest, slowest_name, is_open_at, Reply, PlainPartition, Subscription, NamedLeaf, leaf_of, leaves_of, open_resume}
-use Rattle.std.proofs.Common.{◌/◌}
-use Rattle.std.specs.Prelude.{Ok}
+use Rattle.step_core.proofs.Prelude.{SubState, Registration, Plan, StaleAgent, ◌≡◌, ◌∙◌, ap, sym, refl, ℕ, ◌+◌, ◌-◌, ◌*◌, min, Bool, true, false, ◌&&◌, List, [], ◌∷◌, length, map, filter, Option, Some, None, ◌==◌, arith, not, if◌then◌else◌, unwrap_or, Err, pull_size, sub_lt, keys_where, least, has_number, SubName, BLOCK_EVENTS, pull-stale, slowest, slowest_name, is_open_at, Reply, PlainPartition, Subscription, NamedLeaf, leaf_of, leaves_of, open_resume, ◌/◌, Ok}
 use Rattle.stream_ident.specs.declared.ident.SubName.TheVariants as name
 use Rattle.stream_model.specs.declared.reply.Reply.TheVariants as reply
 use Rattle.stream_model.specs.Pulling as plain

@@ -1,6 +1,5 @@
 -- What producers ask leaves parts that agree with each other.
-use Rattle.step_core.proofs.Prelude.{PlainQueue, append, Appended, high, bare, ◌≡◌, ◌∙◌, ap, subst, sym, refl, ℕ, ◌+◌, ◌≤◌, true, ◌||◌, List, [], ◌++◌, length, map, ◌==◌, nat_lt, arith, append-nil, Result, Err, AllocError, events_of, Performs, Event, StreamId, BATCH_EVENTS, between, Reply, PlainPartition, cond_both}
-use Rattle.std.specs.Prelude.{Ok}
+use Rattle.step_core.proofs.Prelude.{PlainQueue, append, Appended, high, bare, ◌≡◌, ◌∙◌, ap, subst, sym, refl, ℕ, ◌+◌, ◌≤◌, true, ◌||◌, List, [], ◌++◌, length, map, ◌==◌, nat_lt, arith, append-nil, Result, Err, AllocError, events_of, Performs, Event, StreamId, BATCH_EVENTS, between, Reply, PlainPartition, cond_both, Ok}
 use Rattle.stream_model.specs.Publishing.{publish}
 use Rattle.stream_model.specs.Step as plain
 use Rattle.partition_queue.specs.declared.appended.Appended.TheVariants as appended

@@ -1,6 +1,5 @@
 -- The events that an agent takes, and the subscriptions that the rules make of them.
-use Rattle.step_core.proofs.Prelude.{PlainActivation, new_state, SubState, Registration, ◌≡◌, ◌∙◌, ap, sym, subst, refl, ℕ, Bool, true, false, ◌&&◌, not, List, [], ◌∷◌, ◌++◌, length, map, drop, fold, Some, arith, append_snoc, drop-append_seam, append-nil, length-append, length-map, map-append, AllByRecursion, flat_map, if◌then◌else◌, batch_token, same_name, same_sub, token_lt, value_at, Event, GrainId, SubName, Rule, Subscription, new_states}
-use Rattle.std.proofs.Common.{is_some}
+use Rattle.step_core.proofs.Prelude.{PlainActivation, new_state, SubState, Registration, ◌≡◌, ◌∙◌, ap, sym, subst, refl, ℕ, Bool, true, false, ◌&&◌, not, List, [], ◌∷◌, ◌++◌, length, map, drop, fold, Some, arith, append_snoc, drop-append_seam, append-nil, length-append, length-map, map-append, AllByRecursion, flat_map, if◌then◌else◌, batch_token, same_name, same_sub, token_lt, value_at, Event, GrainId, SubName, Rule, Subscription, new_states, is_some}
 use Rattle.stream_ident.specs.declared.ident.SubName.TheVariants as name
 use Rattle.stream_model.specs.Pulling as plain
 use Rattle.pubsub_registry.specs.Implying as implying

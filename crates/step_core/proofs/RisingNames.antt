@@ -1,6 +1,5 @@
 -- Names that rise: those past a name are those up to the next one, then that one, then those past it.
-use Rattle.step_core.proofs.Prelude.{◌≡◌, ◌∙◌, ap, sym, refl, subst, Bool, true, false, ◌||◌, List, [], ◌∷◌, ◌++◌, filter, map, Option, Some, None, both_ways, cond_both, false_from_ne_true, or_parts, or_right, AllByRecursion, list_any, ⊤, All-weaken, IsEquality, above, is_above, keys_where, least, lesser, value_at, in_order, insert_in_order}
-use Rattle.std.proofs.Common.{if◌then◌else◌}
+use Rattle.step_core.proofs.Prelude.{◌≡◌, ◌∙◌, ap, sym, refl, subst, Bool, true, false, ◌||◌, List, [], ◌∷◌, ◌++◌, filter, map, Option, Some, None, both_ways, cond_both, false_from_ne_true, or_parts, or_right, AllByRecursion, list_any, ⊤, All-weaken, IsEquality, above, is_above, keys_where, least, lesser, value_at, in_order, insert_in_order, if◌then◌else◌}
 use Rattle.std.proofs.lemmas.Map.Views.{any-filter_same}
 use Rattle.stream_ident.proofs.Order.{IsOrder}
 use Rattle.stream_laws.proofs.KeyLists.{All-insert, any-in_order, least-none, least-of}

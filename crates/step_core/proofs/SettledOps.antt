@@ -1,6 +1,5 @@
 -- A subscription that is settled: to serve it changes nothing.
-use Rattle.step_core.proofs.Prelude.{◌≡◌, ◌∙◌, ap, sym, refl, subst, ℕ, suc, pred, ◌-◌, ◌≤◌, ◌==◌, max, nat_le, nat_lt, Bool, true, false, List, [], ◌∷◌, length, Option, Some, None, Ok, arith, and_parts, eqb-true, le-ltb, leb-true, ltb-false, lt-ltb, not-true, sub_equality, same_sub, past, GrainId, SubName, deliver-nothing, next-none, running_of, reached-after, with_value-at, after_ack, after_last_deliver, deliver_up_to, last_handled, is_outstanding, next_position, sub_at, token_at, with_sub, acknowledged, Reply, IsReached, Ack, Deliver, PlainPartition, Subscription}
-use Rattle.std.proofs.Common.{if◌then◌else◌}
+use Rattle.step_core.proofs.Prelude.{◌≡◌, ◌∙◌, ap, sym, refl, subst, ℕ, suc, pred, ◌-◌, ◌≤◌, ◌==◌, max, nat_le, nat_lt, Bool, true, false, List, [], ◌∷◌, length, Option, Some, None, Ok, arith, and_parts, eqb-true, le-ltb, leb-true, ltb-false, lt-ltb, not-true, sub_equality, same_sub, past, GrainId, SubName, deliver-nothing, next-none, running_of, reached-after, with_value-at, after_ack, after_last_deliver, deliver_up_to, last_handled, is_outstanding, next_position, sub_at, token_at, with_sub, acknowledged, Reply, IsReached, Ack, Deliver, PlainPartition, Subscription, if◌then◌else◌}
 use Rattle.std.proofs.Math.Bool.{or-false}
 use Rattle.stream_model.specs.declared.reply.Reply.TheVariants as reply
 use Rattle.stream_model.specs.Draining.{acknowledge, after_deliver, deliver_all, deliver_once_more, serve}

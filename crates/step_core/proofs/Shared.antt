@@ -1,7 +1,6 @@
 -- What each operation starts from.
-use Rattle.step_core.proofs.Prelude.{AreUnique, Registration, high, ◌≡◌, subst, ℕ, ◌≤◌, true, List, length, get_or, slice_get-get_or, same_sub, SubName, IsReached, PlainPartition, refl, Bool, false, if◌then◌else◌, ◌∙◌, ap, ◌∷◌, map, filter}
+use Rattle.step_core.proofs.Prelude.{AreUnique, Registration, high, ◌≡◌, subst, ℕ, ◌≤◌, true, List, length, get_or, slice_get-get_or, same_sub, SubName, IsReached, PlainPartition, refl, Bool, false, if◌then◌else◌, ◌∙◌, ap, ◌∷◌, map, filter, reverse}
 use Rattle.std.proofs.Math.ListN.{get_or-map}
-use Rattle.std.specs.Prelude.{reverse}
 use Rattle.stream_laws.proofs.Invariant.{Fits}
 use Rattle.stream_laws.proofs.KeptStep.{kept-step}
 use Rattle.stream_laws.proofs.Legal.{fits-stands}

@@ -1,5 +1,4 @@
-use Rattle.step_core.proofs.Prelude.{Plan, StaleAgent, ◌∙◌, ap, sym, refl, Result, unwrap_or, slowest_name}
-use Rattle.std.specs.Prelude.{Ok}
+use Rattle.step_core.proofs.Prelude.{Plan, StaleAgent, ◌∙◌, ap, sym, refl, Result, unwrap_or, slowest_name, Ok}
 use Rattle.stream_ident.specs.declared.ident.SubName.TheVariants as name
 use Rattle.pulling_agent.specs.declared.agent.Plan.TheVariants as plan
 use Rattle.step_core.specs.PlainOf.{plain_of}

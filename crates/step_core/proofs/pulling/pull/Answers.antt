@@ -1,5 +1,4 @@
-use Rattle.step_core.proofs.Prelude.{plan_of, Plan, StaleAgent, ◌≡◌, ◌∙◌, ◌<◌, ap, subst, sym, true, length, eqb-true, OnErr, Result, Performs, SubName, takes_memory}
-use Rattle.std.specs.Prelude.{Ok}
+use Rattle.step_core.proofs.Prelude.{plan_of, Plan, StaleAgent, ◌≡◌, ◌∙◌, ◌<◌, ap, subst, sym, true, length, eqb-true, OnErr, Result, Performs, SubName, takes_memory, Ok}
 use Rattle.stream_model.specs.declared.reply.Reply.TheVariants as reply
 use Rattle.pulling_agent.specs.declared.agent.Plan.TheVariants as plan
 use Rattle.step_core.specs.PlainOf.{plain_of}
