@@ -87,8 +87,7 @@ deliverable-due p s r reached found is =
     let parts = and_parts r.is_open (is_some (next_position p r)) is in
     let history = history-of p reached in
     let served = (history.fits.subs s r found).served parts.0 in
-    let seen = next-within p r (next_position p r) refl parts.1 in
-    let below : nat_lt r.resume p.high ≡ true = lt-ltb r.resume p.high (omega (arith, seen, served.resume_cursor)) in
+    let below : nat_lt r.resume p.high ≡ true = lt-ltb r.resume p.high (omega (arith, next-within p r (next_position p r) refl parts.1, served.resume_cursor)) in
     rw (parts.0, below) (or_right (is_unacknowledged r) true refl)
   where
     next-within : (p : PlainPartition) (r : Subscription) (next : Option ℕ) → next_position p r ≡ next → is_some next ≡ true → r.cursor < p.high
@@ -136,10 +135,9 @@ pub settled-undue : (p : PlainPartition) (s : SubName) (r : Subscription) → Is
 settled-undue p s r reached found is_open undue =
     let history = history-of p reached in
     let served = (history.fits.subs s r found).served is_open in
-    let near = near-legal reached.blocks reached.limits reached.history p reached.stands s r found is_open in
     let facts = not-due p r is_open undue in
     let order = served.resume_cursor in
-    let level : r.resume ≡ r.cursor = omega (arith, near, facts.1, order) in
+    let level : r.resume ≡ r.cursor = omega (arith, near-legal reached.blocks reached.limits reached.history p reached.stands s r found is_open, facts.1, order) in
     let seen : p.high ≤ r.cursor = omega (arith, facts.1, order) in
     ap (is_settled_in p.high) found ∙ rw (is_open, le-leb p.high r.cursor seen, eq-eqb r.resume r.cursor level, facts.0) refl
 

@@ -175,8 +175,7 @@ offer-first j old d takes =
 -- activations have no greater numbers than there are rises, so that the next one is one more
 activation-rises : (parts : Parts) (j : ℕ) → Agrees parts → j < length parts.grains → next_activation (activation_at parts.grains j).number ≡ suc (activation_at parts.grains j).number
 activation-rises parts j agrees within =
-    let few = All-at (λ (g : GrainId × PlainActivation). g.1.number ≤ parts.rises) parts.grains j no_grain (numbers parts.grains agrees.within.activations) within in
-    omega (arith, few, agrees.within.rises, agrees.within.limits.rises)
+    omega (arith, All-at (λ (g : GrainId × PlainActivation). g.1.number ≤ parts.rises) parts.grains j no_grain (numbers parts.grains agrees.within.activations) within, agrees.within.rises, agrees.within.limits.rises)
   where
     numbers : (grains : PlainGrains) → AllByRecursion (λ (entry : GrainId × Grain). entry.1.activation ≤ parts.rises) (grains_of parts.subs.registry.names grains) → AllByRecursion (λ (g : GrainId × PlainActivation). g.1.number ≤ parts.rises) grains
     numbers [] all = tt

@@ -43,9 +43,7 @@ module _ {X : Type 0} (lt : X → X → Bool) (o : IsStrictWeakOrder lt) (xs : L
         by true more is-less is-more = absurd (apart r s (ltb-true r s is-less) in-s tie-r tie-s)
         by false true is-less is-more = absurd (apart s r (ltb-true s r is-more) in-r tie-s tie-r)
         by false false is-less is-more =
-            let one = ltb-false r s is-less in
-            let other = ltb-false s r is-more in
-            omega (arith, one, other)
+            omega (arith, ltb-false r s is-less, ltb-false s r is-more)
 
     stable : IsStableBy lt xs by_rank
     stable z = by (first_at (ties lt z) 0 xs) refl
@@ -58,8 +56,7 @@ module _ {X : Type 0} (lt : X → X → Bool) (o : IsStrictWeakOrder lt) (xs : L
             let nowhere = first_at-None (ties lt z) 0 xs d none in
             filter-none (ties lt z) by_rank d (λ r within.
             let inside : r < length order = omega (arith, within, many) in
-            let there = inverse.number_within r inside in
-            ap (ties lt z) (read r inside) ∙ nowhere (slice_index order r) (omega (arith, there, long)))
+            ap (ties lt z) (read r inside) ∙ nowhere (slice_index order r) (omega (arith, inverse.number_within r inside, long)))
             ∙ sym (filter-none (ties lt z) xs d nowhere)
         by (Some i) found =
             let first = first_at-Some (ties lt z) 0 xs d i found in

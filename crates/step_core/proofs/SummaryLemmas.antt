@@ -72,8 +72,7 @@ module _ (names : List (SubName × Registration)) (states : List SubState) (leng
     pub number-ranked : (rank : ℕ) → rank < length (in_order is_named_before summaries) → slice_index order rank < length names
     number-ranked rank within =
         let there = ranked.ranking.inverse.number_within rank (let long = ranked.long in omega (arith, within, count-in_order, long)) in
-        let long = ranked.long in
-        omega (arith, there, long)
+        omega (arith, there, ranked.long)
 
     -- the summary at a rank
     pub summary-at : (rank : ℕ) → rank < length (in_order is_named_before summaries) → slice_get (in_order is_named_before summaries) rank ≡ Some (summary_by (slice_index order rank))

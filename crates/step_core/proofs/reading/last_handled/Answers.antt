@@ -12,8 +12,7 @@ token_at-requires c =
     let xs = c.handled_positions.result.now in
     let last = c.in_ok-last.last.now in
     let is : slice_get xs (length xs - 1) ≡ Some last = sym c.in_ok-last.ensures.value in
-    let there = get_or_from_slice_get xs (length xs - 1) last 0 is in
-    omega (arith, All-at (λ position. position < length c.args.parts.now.queue.events) xs (length xs - 1) 0 c.handled_positions.ensures.within (slice_get_within xs (length xs - 1) last is), there)
+    omega (arith, All-at (λ position. position < length c.args.parts.now.queue.events) xs (length xs - 1) 0 c.handled_positions.ensures.within (slice_get_within xs (length xs - 1) last is), get_or_from_slice_get xs (length xs - 1) last 0 is)
 
 pub returns : goal.returns
 returns c =

@@ -14,17 +14,15 @@ returns-in-Some-clause-drains c = drains-stuck c.args.self.now c.in-Some.grain (
 
 pub overflow_sub-result : goal.overflow_sub-result
 overflow_sub-result c =
-    let since = turns-since c.args.self.now c.drain_all.new.partition c.in-Ok.ensures.0 in
-    omega (arith, since, c.turns.ensures.turns, c.turns-turns.ensures.turns)
+    omega (arith, turns-since c.args.self.now c.drain_all.new.partition c.in-Ok.ensures.0, c.turns.ensures.turns, c.turns-turns.ensures.turns)
 
 pub returns-in-Ok-clause-drains : goal.returns-in-Ok-clause-drains
 returns-in-Ok-clause-drains c =
     let p = c.args.self.now in
     let new = c.drain_all.new.partition in
-    let since = turns-since p new c.in-Ok.ensures.0 in
     let free : None ≡ least_running p = sym c.in_default.is ∙ c.least_running.ensures in
     let turns = c.turns.result - c.turns-turns.result in
-    let count : commits (drain_all p).entries ≡ turns = omega (arith, since, c.turns.ensures.turns, c.turns-turns.ensures.turns) in
+    let count : commits (drain_all p).entries ≡ turns = omega (arith, turns-since p new c.in-Ok.ensures.0, c.turns.ensures.turns, c.turns-turns.ensures.turns) in
     drains-ended p new None (ending.Drained turns) free c.in-Ok.ensures (ap (λ turns. Some (ending.Drained turns)) count)
 
 -- why the rounds stopped
