@@ -22,11 +22,7 @@ loop-queue-init g c =
 
 pub ask_once-requires-in-loop-queue-after_bounds : goal.ask_once-requires-in-loop-queue-after_bounds
 ask_once-requires-in-loop-queue-after_bounds g c = λ κs bounds.
-    let below = c.loop-queue-test.true in
-    let end = c.queues-queue-end.ensures in
-    let first = turnstiles-length c.args.caller.now c.ask_once.new.caller c.ask_once.ensures.turnstiles in
-    let now = turnstiles-length c.args.caller.now c.loop-queue.caller c.loop-queue.invariant.at in
-    omega (arith, below, end, first, now)
+    omega (arith, c.loop-queue-test.true, c.queues-queue-end.ensures, turnstiles-length c.args.caller.now c.ask_once.new.caller c.ask_once.ensures.turnstiles, turnstiles-length c.args.caller.now c.loop-queue.caller c.loop-queue.invariant.at)
 
 pub returns-in_err-ask_once-clause-on : goal.returns-in_err-ask_once-clause-on
 returns-in_err-ask_once-clause-on g c = zip-trans HasGoneOn HasGoneOn HasGoneOn gone-trans _ _ _ c.loop-queue.invariant.on (each-on (op_of c.args.each.now) c.op-in-loop-queue.result _ _ _ _ c.op-in-loop-queue.ensures c.requires.producer c.ask_once-in-loop-queue.ensures.asks)
@@ -106,8 +102,7 @@ returns g c =
     let old = c.args.caller.now in
     let new = c.loop-queue.caller in
     let now = c.loop-queue.invariant in
-    let long = turnstiles-length old c.ask_once.new.caller c.ask_once.ensures.turnstiles in
-    let all : length old ≤ c.loop-queue.queue = omega (arith, c.loop-queue-test.false, c.queues-queue-end.ensures, long) in
+    let all : length old ≤ c.loop-queue.queue = omega (arith, c.loop-queue-test.false, c.queues-queue-end.ensures, turnstiles-length old c.ask_once.new.caller c.ask_once.ensures.turnstiles) in
     let once = once-free first op c.loop-queue.queue old new all now.free now.far.asked in
     record {
       told = λ _. each-tells first c.args.each.now c.loop-queue.queue old new all c.requires.producer now.far;
