@@ -147,8 +147,7 @@ takes-back old kept back =
 
 pub splits-off : (old new kept : List QueuePass) (at : ℕ) → length old ≤ at → kept ≡ old → length new ≡ at → AllZipFront IsSplitOff old new → SplitsOff old new kept
 splits-off old new kept at past same long front =
-    let fits = front-fits IsSplitOff old new front in
-    let off = front-all IsSplitOff old new (omega (arith, fits)) front in
+    let off = front-all IsSplitOff old new (omega (arith, front-fits IsSplitOff old new front)) front in
     record { same = same; off = off; unused = all-unused old new off; beside = all-beside IsSplitOff split-alike old new off }
 
 -- where one pass has only seen more, each is still at its turnstile

@@ -149,9 +149,7 @@ came-some live silo none = absurd (omega (arith, length_push live silo, ap (λ (
 
 pub left-some : (live : List ℕ) (place : ℕ) → place < length live → 1 < length live → remove live place ≡ [] → ⊥
 left-some live place within others none =
-    let shorter = length-remove live place within in
-    let empty = ap (λ (xs : List ℕ). length xs) none in
-    omega (arith, others, shorter, empty)
+    omega (arith, others, length-remove live place within, ap (λ (xs : List ℕ). length xs) none)
 
 -- how a change that was broken off is answered
 pub halted-up : (v w : ClusterView) (silo : ℕ) (h : Halt) (r : Result SiloUp AllocError) → IsUpBy h r → is_fixed v ≡ false → (Contains v.operator.live silo → ⊥) → HasHalted v w → (h ≡ halt.Limit → HasMetLimit v.operator w.operator) → w.ends ≡ v.ends → HasAtMostCome silo v.silos w.silos → AnswersUp v silo r w
@@ -236,10 +234,8 @@ range-next n =
 
 pub range-absent : (n : ℕ) → Contains (range_with_len 0 n) n → ⊥
 range-absent n (at, within, here) =
-    let long = length-range_with_len 0 n in
-    let less : at < n = omega (arith, long, within) in
-    let value = get_or-range_with_len 0 n at n less in
-    absurd (omega (arith, less, value, here))
+    let less : at < n = omega (arith, length-range_with_len 0 n, within) in
+    absurd (omega (arith, less, get_or-range_with_len 0 n at n less, here))
 
 all-unused : (ls ms : List LineView) → AllZip IsSplitLine ls ms → AllByRecursion IsUnused (map (λ (l : LineView). l.pass) ms)
 all-unused [] [] all = tt
@@ -257,9 +253,7 @@ back-at v ss place s t within read runs same = same-at v.lines v.directory s t (
 -- the silo at a place lives there
 pub silo-place : (ss : List SiloView) (live : List ℕ) (place : ℕ) (s : SiloView) → map (λ (x : SiloView). x.silo) ss ≡ live → place < length ss → s ≡ get_or ss place s → slice_get live place ≡ Some s.silo
 silo-place ss live place s loops within read =
-    let long = length-map ss (λ (x : SiloView). x.silo) in
-    let same = ap (λ (xs : List ℕ). length xs) loops in
-    slice_get-get_or live place s.silo (omega (arith, within, long, same))
+    slice_get-get_or live place s.silo (omega (arith, within, length-map ss (λ (x : SiloView). x.silo), ap (λ (xs : List ℕ). length xs) loops))
     ∙ ap (λ k. Some k) (ap (λ (xs : List ℕ). get_or xs place s.silo) (sym loops) ∙ get_or-map (λ (x : SiloView). x.silo) ss place s s.silo within ∙ ap (λ (x : SiloView). x.silo) (sym read))
 
 pub map-remove : (ss : List SiloView) (place : ℕ) → map (λ (x : SiloView). x.silo) (remove ss place) ≡ remove (map (λ (x : SiloView). x.silo) ss) place
@@ -330,10 +324,7 @@ opened-whole config first lines own d v e w caller same many at unseen new passe
 -- where the silos that run are those that live, one that lives at a place runs there
 pub place-within : (ss : List SiloView) (live : List ℕ) (place silo : ℕ) → map (λ (x : SiloView). x.silo) ss ≡ live → slice_get live place ≡ Some silo → place < length ss
 place-within ss live place silo loops stood =
-    let within = slice_get_within live place silo stood in
-    let long = length-map ss (λ (x : SiloView). x.silo) in
-    let same = ap (λ (xs : List ℕ). length xs) loops in
-    omega (arith, within, long, same)
+    omega (arith, slice_get_within live place silo stood, length-map ss (λ (x : SiloView). x.silo), ap (λ (xs : List ℕ). length xs) loops)
 
 -- a silo that ran came back, and how its loops have ended was noted
 pub has-noted : (v w : ClusterView) (place silo : ℕ) (s back : SiloView) → is_fixed v ≡ false → IsCluster v → slice_get v.operator.live place ≡ Some silo → s ≡ get_or v.silos place s → w.silos ≡ remove v.silos place → HasRun s back → HaveComeBack w.operator.lines w.operator.directory back → w.ends ≡ noted v.ends back

@@ -14,9 +14,8 @@ returns-in_err-evict-clause-on g c = op-trans c.args.operator.now c.take_back.ne
 
 pub dismiss-requires-after_bounds : goal.dismiss-requires-after_bounds
 dismiss-requires-after_bounds g c κs within =
-    let stood = slice_get_within c.args.operator.now.live c.args.place c.args.loops.silo c.requires.place in
     let same = ap (λ (xs : List ℕ). length xs) (c.evict.ensures.only.live ∙ c.take_back.ensures.only.live) in
-    omega (arith, stood, same)
+    omega (arith, slice_get_within c.args.operator.now.live c.args.place c.args.loops.silo c.requires.place, same)
 
 pub returns-in_err-evict-clause-limit : goal.returns-in_err-evict-clause-limit
 returns-in_err-evict-clause-limit g c =
@@ -41,10 +40,8 @@ returns g c =
     let on = op-trans u emptied v (op-trans u back emptied c.take_back.ensures.only.on c.evict.ensures.only.on) gone in
     let later = op-trans back emptied w c.evict.ensures.only.on (op-trans emptied v w gone c.spread.ensures.on) in
     let long = ap (λ (xs : List ℕ). length xs) (c.evict.ensures.only.live ∙ c.take_back.ensures.only.live) in
-    let stood = slice_get_within u.live c.args.place c.args.loops.silo c.requires.place in
-    let others = c.requires.others in
-    let within : c.args.place < length emptied.live = omega (arith, stood, long) in
-    let more : 1 < length emptied.live = omega (arith, others, long) in
+    let within : c.args.place < length emptied.live = omega (arith, slice_get_within u.live c.args.place c.args.loops.silo c.requires.place, long) in
+    let more : 1 < length emptied.live = omega (arith, c.requires.others, long) in
     let live = ap (λ (o : OperatorView). o.live) c.dismiss.ensures in
     let kept : w.directory ≡ emptied.directory = c.spread.ensures.directory ∙ ap (λ (o : OperatorView). o.directory) c.dismiss.ensures in
     let none_left = emptied-whole c.loops.inside.silo back.lines back.directory emptied.directory c.args.loops silo c.take_back.ensures.taken c.in_ok-evict.ensures.none_left in

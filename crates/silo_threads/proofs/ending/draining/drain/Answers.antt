@@ -14,31 +14,27 @@ loop-look-init g c = record { none = zip-refl ProducesNone none-refl c.args.call
 
 pub returns-in-Ok-All : goal.returns-in-Ok-All
 returns-in-Ok-All g c =
-    let below = c.loop-look-test.true in
-    let looked = last-look c.args.looks c.loop-look.look (Ok All) c.args.caller.now c.loop-look.caller c.ask_quiet.new.caller (omega (arith, below)) c.loop-look.invariant.none c.loop-look.invariant.vain
+    let looked = last-look c.args.looks c.loop-look.look (Ok All) c.args.caller.now c.loop-look.caller c.ask_quiet.new.caller (omega (arith, c.loop-look-test.true)) c.loop-look.invariant.none c.loop-look.invariant.vain
     (subst (λ (end : Quiet). AsksQuiet c.loop-look.caller (Ok end) c.ask_quiet.new.caller) c.in-Ok-All.field-0-is c.in-Ok-All.ensures.asks) in
     record { none = looked.0; ends = looked.2; on = looked.1; turnstiles = c.ask_quiet.ensures.turnstiles ∙ c.loop-look.invariant.at }
 
 pub returns-in-Err-HistoryFull : goal.returns-in-Err-HistoryFull
 returns-in-Err-HistoryFull g c =
-    let below = c.loop-look-test.true in
-    let looked = last-look c.args.looks c.loop-look.look (Err HistoryFull) c.args.caller.now c.loop-look.caller c.ask_quiet.new.caller (omega (arith, below)) c.loop-look.invariant.none c.loop-look.invariant.vain
+    let looked = last-look c.args.looks c.loop-look.look (Err HistoryFull) c.args.caller.now c.loop-look.caller c.ask_quiet.new.caller (omega (arith, c.loop-look-test.true)) c.loop-look.invariant.none c.loop-look.invariant.vain
     (subst (λ (e : Refusal). AsksQuiet c.loop-look.caller (Err e) c.ask_quiet.new.caller) c.in-Err-HistoryFull.field-0-is c.in-Err-HistoryFull.ensures.asks) in
     record { none = looked.0; ends = looked.2; on = looked.1; turnstiles = c.ask_quiet.ensures.turnstiles ∙ c.loop-look.invariant.at }
 
 pub returns-in-Err-Memory : goal.returns-in-Err-Memory
 returns-in-Err-Memory g c =
-    let below = c.loop-look-test.true in
-    let looked = last-look c.args.looks c.loop-look.look (Err Memory) c.args.caller.now c.loop-look.caller c.ask_quiet.new.caller (omega (arith, below)) c.loop-look.invariant.none c.loop-look.invariant.vain
+    let looked = last-look c.args.looks c.loop-look.look (Err Memory) c.args.caller.now c.loop-look.caller c.ask_quiet.new.caller (omega (arith, c.loop-look-test.true)) c.loop-look.invariant.none c.loop-look.invariant.vain
     (subst (λ (e : Refusal). AsksQuiet c.loop-look.caller (Err e) c.ask_quiet.new.caller) c.in-Err-Memory.field-0-is c.in-Err-Memory.ensures.asks) in
     record { none = looked.0; ends = looked.2; on = looked.1; turnstiles = c.ask_quiet.ensures.turnstiles ∙ c.loop-look.invariant.at }
 
 pub returns-then-has_ended : goal.returns-then-has_ended
 returns-then-has_ended g c =
-    let below = c.loop-look-test.true in
     let none = looks-none c.args.caller.now c.loop-look.caller c.ask_quiet.new.caller c.ask_quiet.result c.loop-look.invariant.none c.ask_quiet.ensures.asks in
     let vain = vain-more c.loop-look.look c.in-Ok-NotQuiet.field-0-0 c.in-Ok-NotQuiet.field-0-1 c.in-Ok-NotQuiet.field-0 c.args.caller.now c.loop-look.caller c.ask_quiet.new.caller c.in-Ok-NotQuiet.field-0-is c.loop-look.invariant.vain c.in-Ok-NotQuiet.ensures.asks in
-    record { none = none; ends = (c.loop-look.look + 1, omega arith, omega (arith, below), vain); on = none-on c.args.caller.now c.ask_quiet.new.caller none; turnstiles = c.ask_quiet.ensures.turnstiles ∙ c.loop-look.invariant.at }
+    record { none = none; ends = (c.loop-look.look + 1, omega arith, omega (arith, c.loop-look-test.true), vain); on = none-on c.args.caller.now c.ask_quiet.new.caller none; turnstiles = c.ask_quiet.ensures.turnstiles ∙ c.loop-look.invariant.at }
 
 pub loop-look-preserved : goal.loop-look-preserved
 loop-look-preserved g c =

@@ -18,12 +18,10 @@ loop-queue-preserved g c =
 
 pub returns-in_err-deactivate : goal.returns-in_err-deactivate
 returns-in_err-deactivate g c =
-    let below = c.loop-queue-test.true in
-    let len = c.len-queue-end.ensures in
     let long = goes-length _ _ c.loop-queue.invariant.on in
     let lines = c.loop-queue.lines.items in
     let at = c.loop-queue.queue in
-    let within : at < length lines = omega (arith, below, len, long) in
+    let within : at < length lines = omega (arith, c.loop-queue-test.true, c.len-queue-end.ensures, long) in
     let fresh = set lines at c.deactivate.new.line in
     let why = c.in_err-deactivate.field-0.0 in
     record {
@@ -35,7 +33,5 @@ returns-in_err-deactivate g c =
 
 pub returns : goal.returns
 returns g c =
-    let past = c.loop-queue-test.false in
-    let len = c.len-queue-end.ensures in
-    let all = since-all _ c.args.lines.now.items c.loop-queue.lines.items c.loop-queue.queue (omega (arith, past, len)) c.loop-queue.invariant in
+    let all = since-all _ c.args.lines.now.items c.loop-queue.lines.items c.loop-queue.queue (omega (arith, c.loop-queue-test.false, c.len-queue-end.ensures)) c.loop-queue.invariant in
     record { on = c.loop-queue.invariant.on; nowhere = λ queue was is had has. (all queue was is had has).0; done = λ queue was is had has. (all queue was is had has).1; found = tt }

@@ -16,10 +16,8 @@ index_mut-line-requires g c =
 
 pub loop-queue-preserved : goal.loop-queue-preserved
 loop-queue-preserved g c =
-    let below = c.loop-queue-test.true in
-    let len = c.len-queue-end.ensures in
     let long = goes-length _ _ c.loop-queue.invariant.since.on in
-    let within : c.loop-queue.queue < length c.loop-queue.lines.items = omega (arith, below, len, long) in
+    let within : c.loop-queue.queue < length c.loop-queue.lines.items = omega (arith, c.loop-queue-test.true, c.len-queue-end.ensures, long) in
     let line = c.index_mut-line.result.now in
     record {
       since = since-more _ c.args.lines.now.items c.loop-queue.lines.items c.loop-queue.queue line c.move_queue.new.line within c.index_mut-line.ensures.value c.move_queue.ensures.on c.in_ok-move_queue.ensures.moved c.loop-queue.invariant.since;
@@ -28,14 +26,12 @@ loop-queue-preserved g c =
 
 pub returns-in_err-move_queue : goal.returns-in_err-move_queue
 returns-in_err-move_queue g c =
-    let below = c.loop-queue-test.true in
-    let len = c.len-queue-end.ensures in
     let since = c.loop-queue.invariant.since in
     let long = goes-length _ _ since.on in
     let old = c.args.lines.now.items in
     let lines = c.loop-queue.lines.items in
     let at = c.loop-queue.queue in
-    let within : at < length lines = omega (arith, below, len, long) in
+    let within : at < length lines = omega (arith, c.loop-queue-test.true, c.len-queue-end.ensures, long) in
     let line = c.index_mut-line.result.now in
     let read = c.index_mut-line.ensures.value in
     let moved = c.move_queue.new.line in
@@ -53,8 +49,6 @@ returns-in_err-move_queue g c =
 
 pub returns : goal.returns
 returns g c =
-    let past = c.loop-queue-test.false in
-    let len = c.len-queue-end.ensures in
     let since = c.loop-queue.invariant.since in
-    let all = since-all _ c.args.lines.now.items c.loop-queue.lines.items c.loop-queue.queue (omega (arith, past, len)) since in
+    let all = since-all _ c.args.lines.now.items c.loop-queue.lines.items c.loop-queue.queue (omega (arith, c.loop-queue-test.false, c.len-queue-end.ensures)) since in
     record { on = since.on; seen = c.loop-queue.invariant.seen; moved = λ queue was is had has. (all queue was is had has).0; stayed = λ queue was is had has. (all queue was is had has).1; behind = tt }

@@ -11,10 +11,7 @@ leave-requires-clause-at g c κs within = subst (λ (v : ClusterView). IsSiloAt 
 
 pub leave-requires-clause-others : goal.leave-requires-clause-others
 leave-requires-clause-others g c κs within =
-    let stood = slice_get_within c.self.inside.operator.live c.in-Some.place c.loops.inside.silo c.in-Some.ensures in
-    let count = c.live_count.ensures in
-    let other = c.if-live_count-eq1.false in
-    omega (arith, stood, count, other)
+    omega (arith, slice_get_within c.self.inside.operator.live c.in-Some.place c.loops.inside.silo c.in-Some.ensures, c.live_count.ensures, c.if-live_count-eq1.false)
 
 pub invariant_of-self : goal.invariant_of-self
 invariant_of-self g c =
