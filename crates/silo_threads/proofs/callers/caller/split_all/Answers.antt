@@ -22,16 +22,12 @@ returns-in-Err-clause-err g c =
 
 pub loop-at-preserved : goal.loop-at-preserved
 loop-at-preserved g c =
-    let below = c.loop-at-test.true in
-    let len = c.len-at-end.ensures in
     let kept = c.loop-at.invariant in
-    let more = split-more c.args.queues.now.items c.loop-at.queues.items _ c.loop-at.made.items c.push_reserved.new.self.items c.loop-at.at c.index_mut-queue.result.now c.split.new.self c.in-Ok.new (first_of (omega (arith, below, len), search rules, grind (arith, common_steps)))
+    let more = split-more c.args.queues.now.items c.loop-at.queues.items _ c.loop-at.made.items c.push_reserved.new.self.items c.loop-at.at c.index_mut-queue.result.now c.split.new.self c.in-Ok.new (first_of (omega (arith, c.loop-at-test.true, c.len-at-end.ensures), search rules, grind (arith, common_steps)))
     kept.same kept.made kept.off c.index_mut-queue.ensures.value c.in-Ok.ensures.same refl c.in-Ok.ensures.new c.push_reserved.ensures.items in
     record { same = more.0; made = more.1; off = more.2; room = (let same = c.push_reserved.ensures.capacity in let room = kept.room in omega arith) }
 
 pub returns-clause-ok : goal.returns-clause-ok
 returns-clause-ok g c =
-    let past = c.loop-at-test.false in
-    let len = c.len-at-end.ensures in
     let kept = c.loop-at.invariant in
-    splits-off c.args.queues.now.items c.loop-at.made.items c.loop-at.queues.items c.loop-at.at (first_of (omega (arith, past, len), search rules, grind (arith, common_steps))) kept.same kept.made kept.off
+    splits-off c.args.queues.now.items c.loop-at.made.items c.loop-at.queues.items c.loop-at.at (first_of (omega (arith, c.loop-at-test.false, c.len-at-end.ensures), search rules, grind (arith, common_steps))) kept.same kept.made kept.off

@@ -28,8 +28,6 @@ loop-silo-preserved g c =
 
 pub returns : goal.returns
 returns g c =
-    let past = c.loop-silo-test.false in
-    let end = c.loop-silo.auto.silo-end in
-    let all : c.loop-silo.silo ≡ c.args.silos = first_of (omega (arith, past, end), search rules, grind (arith, common_steps)) in
+    let all : c.loop-silo.silo ≡ c.args.silos = first_of (omega (arith, c.loop-silo-test.false, c.loop-silo.auto.silo-end), search rules, grind (arith, common_steps)) in
     let made = c.loop-silo.invariant.made in
     record { same = made.same; only = made.only; made = (subst (λ (n : ℕ). AreStarted n c.loop-silo.made.items) all made.started, made.fresh, made.runs) }

@@ -26,7 +26,4 @@ loop-queue-preserved g c =
 
 pub returns-clause-asks : goal.returns-clause-asks
 returns-clause-asks g c =
-    let past = c.loop-queue-test.false in
-    let end = c.loop-queue.auto.queue-end in
-    let len = c.queues-queue-end.ensures in
-    quiet-all c.loop-queue.queue c.args.caller.now c.loop-queue.caller (first_of (omega (arith, past, end, len), search rules, grind (arith, common_steps))) c.loop-queue.invariant.quiet
+    quiet-all c.loop-queue.queue c.args.caller.now c.loop-queue.caller (first_of (omega (arith, c.loop-queue-test.false, c.loop-queue.auto.queue-end, c.queues-queue-end.ensures), search rules, grind (arith, common_steps))) c.loop-queue.invariant.quiet

@@ -5,8 +5,7 @@ use Rattle.silo_threads.proofs.ending.closing.traces_with_end.Goals as goal
 
 pub returns-in-NotAll : goal.returns-in-NotAll
 returns-in-NotAll g c = λ passes pass traces ends.
-    let len = c.len.ensures in
-    let queue : c.len.result ≡ length c.args.traces.histories.items = first_of (omega (arith, len), search rules, grind (arith, common_steps)) in
+    let queue : c.len.result ≡ length c.args.traces.histories.items = first_of (omega (arith, c.len.ensures), search rules, grind (arith, common_steps)) in
     subst (λ n. IsMissingFirst n c.in-NotAll.missing (passes ++ pass ∷ [])) (sym queue)
     (missing-here g.H.StoredHistory.entries passes c.args.traces.histories.items c.args.traces.partitions.items c.in-NotAll.missing pass traces (subst (λ e. IsEnd g.H.StoredHistory.entries pass e) c.in-NotAll.is ends))
 

@@ -46,9 +46,7 @@ loop-look-preserved g c =
 
 pub returns : goal.returns
 returns g c =
-    let past = c.loop-look-test.false in
-    let end = c.loop-look.auto.look-end in
-    let same : c.loop-look.look ≡ c.args.looks = first_of (omega (arith, past, end), search rules, grind (arith, common_steps)) in
+    let same : c.loop-look.look ≡ c.args.looks = first_of (omega (arith, c.loop-look-test.false, c.loop-look.auto.look-end), search rules, grind (arith, common_steps)) in
     record {
       none = c.loop-look.invariant.none;
       ends = subst (λ (looks : ℕ). LooksInVain looks c.args.caller.now c.loop-look.caller) same c.loop-look.invariant.vain;

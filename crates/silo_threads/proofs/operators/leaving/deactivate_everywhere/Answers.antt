@@ -10,10 +10,8 @@ loop-queue-init g c = since-none _ c.args.lines.now.items
 
 pub loop-queue-preserved : goal.loop-queue-preserved
 loop-queue-preserved g c =
-    let below = c.loop-queue-test.true in
-    let len = c.len-queue-end.ensures in
     let long = goes-length _ _ c.loop-queue.invariant.on in
-    since-more _ c.args.lines.now.items c.loop-queue.lines.items c.loop-queue.queue c.index_mut-line.result.now c.deactivate.new.line (first_of (omega (arith, below, len, long), search rules, grind (arith, common_steps))) c.index_mut-line.ensures.value
+    since-more _ c.args.lines.now.items c.loop-queue.lines.items c.loop-queue.queue c.index_mut-line.result.now c.deactivate.new.line (first_of (omega (arith, c.loop-queue-test.true, c.len-queue-end.ensures, long), search rules, grind (arith, common_steps))) c.index_mut-line.ensures.value
     c.deactivate.ensures.on (c.in_ok-deactivate.ensures.nowhere, c.in_ok-deactivate.ensures.done) c.loop-queue.invariant
 
 pub returns-in_err-deactivate : goal.returns-in_err-deactivate

@@ -10,9 +10,7 @@ loop-queue-init g c = record { since = since-none _ c.args.lines.now.items; seen
 
 pub index_mut-line-requires : goal.index_mut-line-requires
 index_mut-line-requires g c =
-    let below = c.loop-queue-test.true in
-    let len = c.len-queue-end.ensures in
-    let long = goes-length _ _ c.loop-queue.invariant.since.on in first_of (omega (arith, below, len, long), grind (arith, common_steps))
+    let long = goes-length _ _ c.loop-queue.invariant.since.on in first_of (omega (arith, c.loop-queue-test.true, c.len-queue-end.ensures, long), grind (arith, common_steps))
 
 pub loop-queue-preserved : goal.loop-queue-preserved
 loop-queue-preserved g c =

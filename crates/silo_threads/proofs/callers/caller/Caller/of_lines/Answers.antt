@@ -8,8 +8,7 @@ push_reserved-requires g c =
     let turn = YieldsList-turn (YieldsList-from_vec {s = c.into_iter-line-iterator.result} c.args.lines.items gives.0 (first_of (search rules, grind (arith, common_steps)))) c.loop-line.yielded c.loop-line.line-iterator c.loop-line.yielded_by c.next.result c.next.new.self c.in-Some.line c.in-Some.is c.next.ensures.steps in
     let more : length c.loop-line.yielded < length c.args.lines.items = turn.0 in
     let long : length c.loop-line.queues.items ≡ length c.loop-line.yielded = ap (λ (es : List QueuePass). length es) c.loop-line.invariant.passes ∙ length-map c.loop-line.yielded (λ (l : LineView). l.pass) in
-    let room = c.loop-line.invariant.room in
-    first_of (omega (arith, more, long, room), grind (arith, common_steps))
+    first_of (omega (arith, more, long, c.loop-line.invariant.room), grind (arith, common_steps))
 
 pub loop-line-preserved : goal.loop-line-preserved
 loop-line-preserved g c =
