@@ -159,12 +159,11 @@ trace-quiet p q history partition asks trace =
 trace-done : (p q : QueuePass) (history : List (Entry Op Reply)) (partition : PlainPartition) → QuietIsDone → IsQuiet p q → IsTraceOf q history partition → IsDone history partition
 trace-done p q history partition law asks trace =
     let calm = trace-quiet p q history partition asks trace in
-    let start = trace.origin.start in
     let began = trace.empty in
     record {
       is_quiet = calm;
       handled =
-          law began.0 began.1 (told_of history) (replay replied after start.state history) (trace.stands began.0 began.1 began.3)
+          law began.0 began.1 (told_of history) (replay replied after trace.origin.start.state history) (trace.stands began.0 began.1 began.3)
           (ap (λ (w : PlainPartition). quiet w) (sym trace.partition_is) ∙ calm);
     }
 

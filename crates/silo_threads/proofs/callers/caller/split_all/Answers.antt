@@ -13,11 +13,9 @@ join_all-requires-after_bounds g c = λ κs bounds.
 
 pub returns-in-Err-clause-err : goal.returns-in-Err-clause-err
 returns-in-Err-clause-err g c =
-    let below = c.loop-at-test.true in
-    let len = c.len-at-end.ensures in
     let kept = c.loop-at.invariant in
     takes-back _ _
-    (refused-back c.args.queues.now.items c.loop-at.queues.items _ c.join_all.new.queues.items c.loop-at.made.items c.loop-at.at c.index_mut-queue.result.now c.split.new.self (first_of (omega (arith, below, len), search rules, grind (arith, common_steps))) kept.same kept.made kept.off
+    (refused-back c.args.queues.now.items c.loop-at.queues.items _ c.join_all.new.queues.items c.loop-at.made.items c.loop-at.at c.index_mut-queue.result.now c.split.new.self (first_of (omega (arith, c.loop-at-test.true, c.len-at-end.ensures), search rules, grind (arith, common_steps))) kept.same kept.made kept.off
     c.index_mut-queue.ensures.value c.in-Err.ensures.refused refl (all-whole _ _ _ c.join_all.ensures))
 
 pub loop-at-preserved : goal.loop-at-preserved

@@ -18,10 +18,9 @@ returns-in_err-start_silo-clause-at g c =
 
 pub returns-in_err-enlist-clause-at : goal.returns-in_err-enlist-clause-at
 returns-in_err-enlist-clause-at g c =
-    let started = c.in_ok-start_silo.ensures.started in
     let whole = c.push_reserved.ensures.items ∙ ap (λ (ss : List SiloView). ss ++ c.in_ok-start_silo.field-0 ∷ []) c.reserve.ensures.items in
     let runs = All-push (IsSiloAt c.start_silo.new.operator.lines c.start_silo.new.operator.directory) c.args.silos.now.items c.in_ok-start_silo.field-0
-    (sits-on c.args.operator.now c.start_silo.new.operator c.args.silos.now.items c.start_silo.ensures.only.on c.requires.at) started.1 in
+    (sits-on c.args.operator.now c.start_silo.new.operator c.args.silos.now.items c.start_silo.ensures.only.on c.requires.at) c.in_ok-start_silo.ensures.started.1 in
     subst (λ (o : OperatorView). RunsOn o c.push_reserved.new.self.items) (sym c.in_err-enlist.ensures.err)
     (subst (λ (ss : List SiloView). RunsOn c.start_silo.new.operator ss) (sym whole) runs)
 

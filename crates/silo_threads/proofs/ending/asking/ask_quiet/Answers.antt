@@ -13,9 +13,8 @@ returns-in_err-answer-clause-asks g c =
 
 pub returns-in-Some-clause-asks : goal.returns-in-Some-clause-asks
 returns-in-Some-clause-asks g c =
-    let calls = c.in_ok-answer.ensures.calls in
     subst (λ (r : Reply). AsksUpTo c.loop-queue.queue (Ok r) c.args.caller.now c.ask.new.self) (pending-reply c.in_ok-answer.answer c.in-Some.why (sym c.pending_of.ensures ∙ c.in-Some.is))
-    (asked-next c.loop-queue.queue (Ok c.in_ok-answer.answer) c.args.caller.now c.loop-queue.caller c.ask.new.self c.loop-queue.invariant.quiet calls)
+    (asked-next c.loop-queue.queue (Ok c.in_ok-answer.answer) c.args.caller.now c.loop-queue.caller c.ask.new.self c.loop-queue.invariant.quiet c.in_ok-answer.ensures.calls)
 
 pub loop-queue-preserved : goal.loop-queue-preserved
 loop-queue-preserved g c =

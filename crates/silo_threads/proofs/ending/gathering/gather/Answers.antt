@@ -30,8 +30,7 @@ loop-caller-preserved g c =
 
 pub returns : goal.returns
 returns g c =
-    let gives = c.into_iter-caller-iterator.ensures.into_iter_gives in
-    let ending = YieldsList-end (YieldsList-from_vec {s = c.into_iter-caller-iterator.result} c.args.callers.items gives.0 (first_of (search rules, grind (arith, common_steps)))) c.loop-caller.yielded c.loop-caller.caller-iterator c.loop-caller.yielded_by c.next.result c.next.new.self c.in-None.is c.next.ensures.steps in
+    let ending = YieldsList-end (YieldsList-from_vec {s = c.into_iter-caller-iterator.result} c.args.callers.items c.into_iter-caller-iterator.ensures.into_iter_gives.0 (first_of (search rules, grind (arith, common_steps)))) c.loop-caller.yielded c.loop-caller.caller-iterator c.loop-caller.yielded_by c.next.result c.next.new.self c.in-None.is c.next.ensures.steps in
     let whole = sym (map-id c.loop-caller.yielded) ∙ ending.0 in
     lines-gather c.args.lines.items c.args.callers.items c.loop-caller.all c.requires (subst (λ (ps : List QueuePass). AllByRecursion NeverProduces ps) c.in_ok-all.ensures.passes c.in_ok-all.ensures.never)
     (subst (λ (cs : List (List QueuePass)). JoinsEach (passes_of c.args.lines.items) cs c.loop-caller.all) whole c.loop-caller.invariant.joined)

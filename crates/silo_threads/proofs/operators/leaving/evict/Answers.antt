@@ -61,9 +61,8 @@ returns-in_err-deactivate_everywhere-in-Grain-clause-holds g c =
     let d = c.args.directory.now in
     let e = c.loop.directory in
     let f = c.take_grain.new.directory in
-    let lines = c.deactivate_everywhere.new.lines.items in
     let taken = subst (λ (r : Release). Releases c.args.silo e (Ok r) f) c.in-Grain.is c.in_ok-grain.ensures in
-    passed-on (λ (why : Halt). HoldsGrains why c.args.silo d f lines) c.from_residual-in_err-deactivate_everywhere-in-Grain.result c.in_err-deactivate_everywhere-in-Grain.field-0.0 c.from_residual-in_err-deactivate_everywhere-in-Grain.ensures.1
+    passed-on (λ (why : Halt). HoldsGrains why c.args.silo d f c.deactivate_everywhere.new.lines.items) c.from_residual-in_err-deactivate_everywhere-in-Grain.result c.in_err-deactivate_everywhere-in-Grain.field-0.0 c.from_residual-in_err-deactivate_everywhere-in-Grain.ensures.1
     (none-released c.args.silo d e f c.in-Grain.grain c.loop.invariant.directory taken c.loop.invariant.none, inr c.in_err-deactivate_everywhere-in-Grain.ensures.found)
 
 pub returns-in_err-grain-clause-directory : goal.returns-in_err-grain-clause-directory

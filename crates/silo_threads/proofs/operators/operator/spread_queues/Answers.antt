@@ -13,8 +13,7 @@ returns-in_err-spread-clause-assigned g c = c.requires.assigned ∙ sym (goes-le
 
 pub returns-clause-assigned : goal.returns-clause-assigned
 returns-clause-assigned g c =
-    let balanced = c.in-Ok.ensures.balanced in
-    ap (λ (xs : List ℕ). length xs) c.into_vec-new.ensures ∙ balanced.whole ∙ ap (λ (xs : List ℕ). length xs) c.as_slice.ensures.value ∙ c.requires.assigned ∙ sym (goes-length c.args.lines.now.items c.spread.new.lines.items c.spread.ensures.on)
+    ap (λ (xs : List ℕ). length xs) c.into_vec-new.ensures ∙ c.in-Ok.ensures.balanced.whole ∙ ap (λ (xs : List ℕ). length xs) c.as_slice.ensures.value ∙ c.requires.assigned ∙ sym (goes-length c.args.lines.now.items c.spread.new.lines.items c.spread.ensures.on)
 
 pub returns-in-Err-NoSilo-clause-seen : goal.returns-in-Err-NoSilo-clause-seen
 returns-in-Err-NoSilo-clause-seen g c = seen-refl c.args.lines.now.items

@@ -4,8 +4,7 @@ use Rattle.silo_threads.proofs.callers.caller.Caller.of_lines.Goals as goal
 
 pub push_reserved-requires : goal.push_reserved-requires
 push_reserved-requires g c =
-    let gives = c.into_iter-line-iterator.ensures.into_iter_gives in
-    let turn = YieldsList-turn (YieldsList-from_vec {s = c.into_iter-line-iterator.result} c.args.lines.items gives.0 (first_of (search rules, grind (arith, common_steps)))) c.loop-line.yielded c.loop-line.line-iterator c.loop-line.yielded_by c.next.result c.next.new.self c.in-Some.line c.in-Some.is c.next.ensures.steps in
+    let turn = YieldsList-turn (YieldsList-from_vec {s = c.into_iter-line-iterator.result} c.args.lines.items c.into_iter-line-iterator.ensures.into_iter_gives.0 (first_of (search rules, grind (arith, common_steps)))) c.loop-line.yielded c.loop-line.line-iterator c.loop-line.yielded_by c.next.result c.next.new.self c.in-Some.line c.in-Some.is c.next.ensures.steps in
     let more : length c.loop-line.yielded < length c.args.lines.items = turn.0 in
     let long : length c.loop-line.queues.items ≡ length c.loop-line.yielded = ap (λ (es : List QueuePass). length es) c.loop-line.invariant.passes ∙ length-map c.loop-line.yielded (λ (l : LineView). l.pass) in
     first_of (omega (arith, more, long, c.loop-line.invariant.room), grind (arith, common_steps))
@@ -25,8 +24,7 @@ loop-line-preserved g c =
 
 pub returns-clause-passes : goal.returns-clause-passes
 returns-clause-passes g c =
-    let gives = c.into_iter-line-iterator.ensures.into_iter_gives in
-    let ending = YieldsList-end (YieldsList-from_vec {s = c.into_iter-line-iterator.result} c.args.lines.items gives.0 (first_of (search rules, grind (arith, common_steps)))) c.loop-line.yielded c.loop-line.line-iterator c.loop-line.yielded_by c.next.result c.next.new.self c.in-None.is c.next.ensures.steps in
+    let ending = YieldsList-end (YieldsList-from_vec {s = c.into_iter-line-iterator.result} c.args.lines.items c.into_iter-line-iterator.ensures.into_iter_gives.0 (first_of (search rules, grind (arith, common_steps)))) c.loop-line.yielded c.loop-line.line-iterator c.loop-line.yielded_by c.next.result c.next.new.self c.in-None.is c.next.ensures.steps in
     let whole = sym (map-id c.loop-line.yielded) ∙ ending.0 in
     c.new-2.ensures ∙ c.loop-line.invariant.passes ∙ ap (λ (ls : List LineView). passes_of ls) whole
 
