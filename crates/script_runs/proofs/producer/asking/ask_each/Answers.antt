@@ -49,10 +49,7 @@ returns-in_err-first-clause-once g c =
 pub returns-in_err-ask_once-clause-once : goal.returns-in_err-ask_once-clause-once
 returns-in_err-ask_once-clause-once g c =
     let op = op_of c.args.each.now in
-    let old = c.args.caller.now in
-    let now = c.loop-queue.caller in
-    let queue = c.loop-queue.queue in
-    once-refused op c.op-in-loop-queue.result c.from_residual-in_err-ask_once.result c.in_err-ask_once.field-0.0 queue old now c.ask_once-in-loop-queue.new.caller c.op-in-loop-queue.ensures
+    once-refused op c.op-in-loop-queue.result c.from_residual-in_err-ask_once.result c.in_err-ask_once.field-0.0 c.loop-queue.queue c.args.caller.now c.loop-queue.caller c.ask_once-in-loop-queue.new.caller c.op-in-loop-queue.ensures
     c.loop-queue.invariant.far.asked c.from_residual-in_err-ask_once.ensures.1 c.in_err-ask_once.ensures.asks
 
 pub returns-in_err-first-clause-ends : goal.returns-in_err-first-clause-ends
