@@ -85,10 +85,9 @@ idle-empty parts g j agrees found idle =
 pub held-there : (parts : Parts) (number j : ℕ) → Stands parts number → place_of same_grain (record_of parts number).grain parts.grains ≡ Some j
     → is_held (plain_of parts) (table.name_at parts.subs number) (record_of parts number) ≡ holds number (activation_at parts.grains j)
 held-there parts number j stands found =
-    let names = parts.subs.registry.names in
     let r = record_of parts number in
     let a = activation_at parts.grains j in
-    let s = name_at names number in
+    let s = name_at parts.subs.registry.names number in
     ap (λ s. is_held (plain_of parts) s r) (sym (name-same parts.subs number))
     ∙ ap (λ (st : Grain). nat_lt 0 (length (waiting_in s st.mailbox)) || nat_lt 0 (length (running_in s st.running))) (grain-found parts r.grain j no_grain found)
     ∙ outstanding-is parts number a (distinct parts number stands) stands.within (known-at parts j stands.agrees.assembled (place_of-within same_grain r.grain j parts.grains found)) (some-at parts r.grain j stands.agrees found)

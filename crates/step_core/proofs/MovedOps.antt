@@ -65,8 +65,7 @@ module _ (parts : Parts) (generation keep : ℕ) where
 
 all-rewound : (parts : Parts) → AreRecords parts.subs → AreAllRewound parts (rewound_all parts.subs).states
 all-rewound parts records i d e within =
-    let long = records.long in
-    ap (λ state. (sub_of (get_or parts.subs.registry.names i d) state).1) (get_or-map rewound_open parts.subs.states i e e (omega (arith, within, long)))
+    ap (λ state. (sub_of (get_or parts.subs.registry.names i d) state).1) (get_or-map rewound_open parts.subs.states i e e (omega (arith, within, records.long)))
 
 module _ (parts : Parts) (silo position : ℕ) where
   -- the agent's next generation is the plain partition's, since no more than the rises there may be were made

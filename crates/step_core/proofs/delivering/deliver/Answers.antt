@@ -46,8 +46,7 @@ hand_over-requires c =
 
 pub returns-in-Ok-Next : goal.returns-in-Ok-Next
 returns-in-Ok-Next c =
-    let parts = c.args.parts.now in
-    let told : Tells parts c.args.generation c.args.sub.now c.deliver.new.self c.in-Some.number c.is_outstanding-outstanding.result (sought.Next c.in-Ok-Next.position) =
+    let told : Tells c.args.parts.now c.args.generation c.args.sub.now c.deliver.new.self c.in-Some.number c.is_outstanding-outstanding.result (sought.Next c.in-Ok-Next.position) =
     tells c.args.generation c.args.sub.now c.deliver.new.self c.in-Some.number c.is_outstanding-outstanding.result c.requires c.in-Some.ensures.within c.in-Some.ensures.number c.in-Ok-Next.field-0-is c.in-Ok-Next.ensures.sought in
     record {
       assembled = c.hand_over.ensures.assembled;
@@ -72,8 +71,7 @@ returns-in-Ok-Nothing c =
 
 pub returns-in-Ok-Closed : goal.returns-in-Ok-Closed
 returns-in-Ok-Closed c =
-    let parts = c.args.parts.now in
-    let told : Tells parts c.args.generation c.args.sub.now c.deliver.new.self c.in-Some.number c.is_outstanding-outstanding.result sought.Closed =
+    let told : Tells c.args.parts.now c.args.generation c.args.sub.now c.deliver.new.self c.in-Some.number c.is_outstanding-outstanding.result sought.Closed =
     tells c.args.generation c.args.sub.now c.deliver.new.self c.in-Some.number c.is_outstanding-outstanding.result c.requires c.in-Some.ensures.within c.in-Some.ensures.number c.in-Ok-Closed.field-0-is c.in-Ok-Closed.ensures.sought in
     record { assembled = rw told.sought.0 c.requires.assembled; performs = closed-performs told; told = tt; memory = tt; first = tt }
 

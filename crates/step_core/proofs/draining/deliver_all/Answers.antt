@@ -35,14 +35,13 @@ pub loop-preserved : goal.loop-preserved
 loop-preserved c =
     let p = c.loop.partition in
     let mid = c.deliver_next.new.partition in
-    let after = c.take_turn.new.partition in
     let s = c.args.sub.now in
     let g = c.args.grain.now in
     let n = c.args.most - (c.loop.counter + 1) in
     let next : suc n ≡ c.args.most - c.loop.counter = omega arith in
     λ new end rest. c.loop.invariant new end
     (subst (λ n. Ends p new end (deliver_up_to n s g p)) next
-    (deliver-more (suc n) s g p mid new end _ c.if-not-branch.false c.in_ok-deliver_next.ensures (ends-then mid after new end (take_turn g mid) (deliver_up_to n s g) c.in_ok-take_turn.ensures rest)))
+    (deliver-more (suc n) s g p mid new end _ c.if-not-branch.false c.in_ok-deliver_next.ensures (ends-then mid c.take_turn.new.partition new end (take_turn g mid) (deliver_up_to n s g) c.in_ok-take_turn.ensures rest)))
 
 pub returns-in_err-deliver_next-2 : goal.returns-in_err-deliver_next-2
 returns-in_err-deliver_next-2 c =

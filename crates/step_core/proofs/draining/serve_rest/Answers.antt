@@ -11,19 +11,16 @@ pub returns-in_err-deliver_all : goal.returns-in_err-deliver_all
 returns-in_err-deliver_all c =
     let e = err_from_is_err_and c.from_residual.result c.from_residual.ensures.1 in
     let why = c.in_err-deliver_all.field-0.0 in
-    let p = c.args.partition.now in
     let here = c.catch_up.new.self in
     let new = c.deliver_all.new.partition in
     rw (e.1, e.2)
-    (rest-is p here new c.args.number c.args.most c.name-sub.result c.grain-grain.result (halted why) c.if-catch_up.ensures c.name-sub.ensures c.grain-grain.ensures
+    (rest-is c.args.partition.now here new c.args.number c.args.most c.name-sub.result c.grain-grain.result (halted why) c.if-catch_up.ensures c.name-sub.ensures c.grain-grain.ensures
     (ends-halted here new why (deliver_up_to c.args.most c.name-sub.result c.grain-grain.result here) (after_deliveries c.name-sub.result) c.in_err-deliver_all.ensures))
 
 pub returns : goal.returns
 returns c =
-    let p = c.args.partition.now in
     let here = c.catch_up.new.self in
-    let mid = c.deliver_all.new.partition in
     let new = c.settle.new.partition in
     let end = meant c.settle.result in
-    rest-is p here new c.args.number c.args.most c.name-sub.result c.grain-grain.result end c.if-catch_up.ensures c.name-sub.ensures c.grain-grain.ensures
-    (ends-then here mid new end (deliver_up_to c.args.most c.name-sub.result c.grain-grain.result here) (after_deliveries c.name-sub.result) c.in_ok-deliver_all.ensures c.settle.ensures)
+    rest-is c.args.partition.now here new c.args.number c.args.most c.name-sub.result c.grain-grain.result end c.if-catch_up.ensures c.name-sub.ensures c.grain-grain.ensures
+    (ends-then here c.deliver_all.new.partition new end (deliver_up_to c.args.most c.name-sub.result c.grain-grain.result here) (after_deliveries c.name-sub.result) c.in_ok-deliver_all.ensures c.settle.ensures)

@@ -32,8 +32,7 @@ returns-else-is_before-clause-performs c =
 
 pub returns-else-is_before-clause-memory : goal.returns-else-is_before-clause-memory
 returns-else-is_before-clause-memory c =
-    let parts = c.args.parts.now in
     memory-along c.subscribe_at-in-At.result _ _
-    (starts-at parts c.args.stream.now c.args.grain.now c.args.start c.in-At.token c.low_token-low.result c.is_before.result c.lower-position.result c.cache-in-At.result.now
+    (starts-at c.args.parts.now c.args.stream.now c.args.grain.now c.args.start c.in-At.token c.low_token-low.result c.is_before.result c.lower-position.result c.cache-in-At.result.now
     c.requires.assembled.cached c.in-At.is c.low_token-low.ensures c.is_before.ensures c.if-is_before.false c.cache-in-At.ensures c.lower-position.ensures.lower)
     c.subscribe_at-in-At.ensures.memory

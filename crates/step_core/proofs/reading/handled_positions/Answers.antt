@@ -5,9 +5,8 @@ use Rattle.step_core.proofs.reading.handled_positions.Goals as goal
 
 pub returns-in-Some-clause-positions : goal.returns-in-Some-clause-positions
 returns-in-Some-clause-positions c =
-    let parts = c.args.parts.now in
     c.as_slice.ensures.positions ∙ ap (λ s. s.handled) c.state.ensures
-    ∙ sym (ap positions_by (found-sub parts c.args.sub.now c.in-Some.number c.requires.records (sym c.find.ensures.number ∙ c.in-Some.is)))
+    ∙ sym (ap positions_by (found-sub c.args.parts.now c.args.sub.now c.in-Some.number c.requires.records (sym c.find.ensures.number ∙ c.in-Some.is)))
 
 pub returns-in-Some-clause-within : goal.returns-in-Some-clause-within
 returns-in-Some-clause-within c =
@@ -18,5 +17,4 @@ returns-in-Some-clause-within c =
 
 pub returns-in-None-clause-positions : goal.returns-in-None-clause-positions
 returns-in-None-clause-positions c =
-    let parts = c.args.parts.now in
-    sym (ap positions_by (found-none parts c.args.sub.now c.requires.records (sym c.find.ensures.number ∙ c.in-None.is)))
+    sym (ap positions_by (found-none c.args.parts.now c.args.sub.now c.requires.records (sym c.find.ensures.number ∙ c.in-None.is)))
