@@ -87,28 +87,25 @@ module _ (op : Op) where
   asked-all : (n : ℕ) (old now : List QueuePass) → length old ≤ n → AreAskedBefore n op old now → AllZip (IsAsked op) old now
   asked-all zero [] now long same = subst (λ (es : List QueuePass). AllZip (IsAsked op) [] es) (sym same) tt
   asked-all zero (p ∷ old) now long same = absurd (omega arith)
-  asked-all (suc n) [] now long front = absurd front
-  asked-all (suc n) (p ∷ old) [] long front = absurd front
   asked-all (suc n) (p ∷ old) (q ∷ now) long front = (front.0, asked-all n old now (omega arith) front.1)
+  asked-all (suc n) _ _ long front = absurd front
 
   -- what was asked at a queue, by where the calls have come to
   pub before-at : (n : ℕ) (old now : List QueuePass) (k : ℕ) (q : QueuePass) → AreAskedBefore n op old now → slice_get now k ≡ Some q
       → ((k < n) × (p : QueuePass) × (slice_get old k ≡ Some p) × IsAsked op p q) ⊎ ((n ≤ k) × (slice_get old k ≡ Some q))
   before-at zero old now k q same at = inr (omega arith, ap (λ (es : List QueuePass). slice_get es k) (sym same) ∙ at)
-  before-at (suc n) [] now k q front at = absurd front
-  before-at (suc n) (p ∷ old) [] k q front at = absurd front
   before-at (suc n) (p ∷ old) (r ∷ now) zero q front at = let same : r ≡ q = cc in inl (omega arith, p, refl, subst (λ (e : QueuePass). IsAsked op p e) same front.0)
   before-at (suc n) (p ∷ old) (r ∷ now) (suc k) q front at =
       elim (before-at n old now k q front.1 at) as (λ s. ((suc k < suc n) × (w : QueuePass) × (slice_get old k ≡ Some w) × IsAsked op w q) ⊎ ((suc n ≤ suc k) × (slice_get old k ≡ Some q))) [
         | inl below ↦ inl (omega (arith, below.0), below.1, below.2, below.3)
         | inr past ↦ inr (omega (arith, past.0), past.1)
       ]
+  before-at (suc n) _ _ k q front at = absurd front
 
   before-on : is_producer op ≡ true → (n : ℕ) (old now : List QueuePass) → AreAskedBefore n op old now → AllZip HasGoneOn old now
   before-on produces zero old now same = subst (λ (es : List QueuePass). AllZip HasGoneOn old es) (sym same) (zip-refl HasGoneOn gone-refl old)
-  before-on produces (suc n) [] now front = absurd front
-  before-on produces (suc n) (p ∷ old) [] front = absurd front
   before-on produces (suc n) (p ∷ old) (q ∷ now) front = (called-on p q op (Ok front.0.reply) (inl produces) front.0.calls, before-on produces n old now front.1)
+  before-on produces (suc n) _ _ front = absurd front
 
   -- the last of the calls is the last since the first of them
   upto-last : (result : Result Answer AllocError) (old new : List QueuePass) → is_producer op ≡ true → AsksUpTo old op result new → AsksLast old op result new
@@ -123,9 +120,8 @@ module _ (op : Op) where
       let some : Some z ≡ Some p = ap (λ (es : List QueuePass). slice_get es 0) (sym same) ∙ had in
       let is : p ≡ z = cc in
       subst (λ (es : List QueuePass). AreAskedBefore 1 op (z ∷ old) (slice_set es 0 q)) (sym same) (subst (λ (e : QueuePass). IsAsked op e q) is asked, refl)
-  before-set (suc n) [] now p q front had asked = absurd front
-  before-set (suc n) (z ∷ old) [] p q front had asked = absurd front
   before-set (suc n) (z ∷ old) (w ∷ now) p q front had asked = (front.0, before-set n old now p q front.1 had asked)
+  before-set (suc n) _ _ p q front had asked = absurd front
 
   before-next : (n : ℕ) (old now new : List QueuePass) (p q : QueuePass) → AreAskedBefore n op old now → slice_get now n ≡ Some p → new ≡ slice_set now n q → IsAsked op p q → AreAskedBefore (n + 1) op old new
   before-next n old now new p q front had put asked =
@@ -154,9 +150,8 @@ first-made first op (z ∷ old) p q had asked is =
 
 first-kept : (first : Answer) (op : Op) (queue : ℕ) (old now : List QueuePass) (q : QueuePass) → 1 ≤ queue → IsFirstAnswer first op old now → IsFirstAnswer first op old (slice_set now queue q)
 first-kept first op zero old now q some is = absurd (omega (arith, some))
-first-kept first op (suc n) [] now q some is = absurd is
-first-kept first op (suc n) (p ∷ old) [] q some is = absurd is
 first-kept first op (suc n) (p ∷ old) (r ∷ now) q some is = is
+first-kept first op (suc n) _ _ q some is = absurd is
 
 pub each-first : (first : Answer) (asked op : Op) (old new : List QueuePass) → op ≡ asked → AsksOnce old 0 op (Ok first) new → first ≢ answer.Limit → AsksSoFar first asked 1 old new
 each-first first asked op old new is once free =
@@ -213,12 +208,11 @@ once-free first op queue old new long free front = asked-all op queue old new lo
 -- what the line prints is what the first queue says
 first-printed : (first : Answer) (op : Op) (old new : List QueuePass) (number : ℕ) (missed : List ℕ) (lines : List Line) → is_producer op ≡ true → IsFirstAnswer first op old new → AllByRecursion BeginsEmpty old → AloneProduces new
     → IsNewNumber number missed lines → HasTold missed lines old → op_printed (with_missed first number missed) lines number 0 op ≡ printed_lines first number
-first-printed first op [] new number missed lines produces is begins alone fresh has = absurd is
-first-printed first op (p ∷ old) [] number missed lines produces is begins alone fresh has = absurd is
 first-printed first op (p ∷ old) (q ∷ new) number missed lines produces is begins alone fresh has =
     let one = is.0 in
     subst (λ (a : Answer). op_printed (with_missed a number missed) lines number 0 op ≡ printed_lines a number) (sym is.1)
     (line-printed p q op one.reply number missed 0 lines begins.0 alone.0 produces one.free fresh one.calls (has 0 p refl))
+first-printed first op _ _ number missed lines produces is begins alone fresh has = absurd is
 
 pub each-tells : (first : Answer) (asked : EachOp) (queues : ℕ) (old new : List QueuePass) → length old ≤ queues → is_producer (op_of asked) ≡ true → AsksSoFar first (op_of asked) queues old new
     → Tells old (command.Each asked) first new

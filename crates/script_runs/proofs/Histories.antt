@@ -26,9 +26,8 @@ asked-at result p q calls = ap (λ (x : QueuePass). x.turnstile) calls.calls.onl
 
 quiet-at : (old new : List QueuePass) → AllZip IsQuiet old new → turnstiles new ≡ turnstiles old
 quiet-at [] [] all = refl
-quiet-at [] (q ∷ qs) all = absurd all
-quiet-at (p ∷ ps) [] all = absurd all
 quiet-at (p ∷ ps) (q ∷ qs) all = λ i. asked-at (Ok reply.IsQuiet) p q all.0 i ∷ quiet-at ps qs all.1 i
+quiet-at _ _ all = absurd all
 
 up-to-at : (queue : ℕ) (result : Result Reply Refusal) (old new : List QueuePass) → AsksUpTo queue result old new → turnstiles new ≡ turnstiles old
 up-to-at queue result [] new asks = absurd asks
@@ -78,13 +77,10 @@ legal-history config p history partition at trace =
 all-legal : (config : Config) (last : List QueuePass) (histories : List (List (Entry Op Reply))) (partitions : List PlainPartition) → AllByRecursion (IsAtQueue config) last → AreTraces last histories partitions
     → (length histories ≡ length last) × AllZip (IsLegalHistory config) histories partitions
 all-legal config [] [] [] at traces = (refl, tt)
-all-legal config [] [] (q ∷ qs) at traces = absurd traces
-all-legal config [] (h ∷ hs) partitions at traces = absurd traces
-all-legal config (p ∷ ps) [] partitions at traces = absurd traces
-all-legal config (p ∷ ps) (h ∷ hs) [] at traces = absurd traces
 all-legal config (p ∷ ps) (h ∷ hs) (q ∷ qs) at traces =
     let rest = all-legal config ps hs qs at.1 traces.1 in
     (ap suc rest.0, (legal-history config p h q at.0 traces.0, rest.1))
+all-legal config _ _ _ at traces = absurd traces
 
 module _ {H : Type 0} (entries : H → List (Entry Op Reply)) where
   -- the traces of a cluster that was new, and has gone on to its end

@@ -44,9 +44,8 @@ begins-one p q on begins = (begins.0, ap (λ (w : QueuePass). w.turnstile) on.on
 
 begins-on : (ps qs : List QueuePass) → AllZip HasGoneOn ps qs → AllByRecursion BeginsEmpty ps → AllByRecursion BeginsEmpty qs
 begins-on [] [] on begins = tt
-begins-on [] (q ∷ qs) on begins = absurd on
-begins-on (p ∷ ps) [] on begins = absurd on
 begins-on (p ∷ ps) (q ∷ qs) on begins = (begins-one p q on.0 begins.0, begins-on ps qs on.1 begins.1)
+begins-on _ _ on begins = absurd on
 
 -- a caller that has made no call was told nothing
 unused-told : (p : QueuePass) → IsUnused p → ProducesAlone p → told_at p ≡ []

@@ -100,10 +100,6 @@ report-from : (last : List QueuePass) (histories : List (List (Entry Op Reply)))
     → ((k : ℕ) (history : List (Entry Op Reply)) → slice_get histories k ≡ Some history → script.producers_entries (told_of history) ≡ script.told missed (queue + k) lines)
     → report_from queue partitions ≡ flat_map (λ q. told_report q (script.told missed q lines)) (range_with_len queue (length histories))
 report-from [] [] [] queue missed lines traces done told = refl
-report-from [] [] (q ∷ qs) queue missed lines traces done told = absurd traces
-report-from [] (h ∷ hs) partitions queue missed lines traces done told = absurd traces
-report-from (p ∷ ps) [] partitions queue missed lines traces done told = absurd traces
-report-from (p ∷ ps) (h ∷ hs) [] queue missed lines traces done told = absurd traces
 report-from (p ∷ ps) (h ∷ hs) (partition ∷ partitions) queue missed lines traces done told =
     let trace : IsTraceOf p h partition = traces.0 in
     let empty = trace.empty in
@@ -114,6 +110,7 @@ report-from (p ∷ ps) (h ∷ hs) (partition ∷ partitions) queue missed lines 
     let rest = report-from ps hs partitions (queue + 1) missed lines traces.1 done.1 (λ k history at.
     subst (λ (q : ℕ). script.producers_entries (told_of history) ≡ script.told missed q lines) (omega arith) (told (suc k) history at)) in
     λ i. first i ++ (ap (λ (q : ℕ). report_from q partitions) (sym (add-one queue)) ∙ rest) i
+report-from _ _ _ queue missed lines traces done told = absurd traces
 
 -- ---- a run
 
