@@ -10,6 +10,7 @@ use Rattle.silo_threads.specs.declared.ending.asking.Quiet.TheVariants.{All, Not
 use Rattle.silo_threads.specs.declared.ending.closing.Traces.{Traces}
 use Rattle.silo_threads.specs.declared.ending.finishing.Finished.{Finished}
 use Rattle.silo_threads.specs.declared.ending.finishing.Finished.TheVariants as finished
+use Rattle.silo_threads.proofs.Splitting.{turnstiles-joined}
 use Rattle.silo_threads.specs.Asking.{AsksUpTo, IsQuiet}
 use Rattle.silo_threads.specs.Closing.{AreTraces, IsTraceOf}
 use Rattle.silo_threads.specs.Finishing.{CameTo}
@@ -40,14 +41,9 @@ came-at (Some All) old new came = quiet-at old new came
 came-at (Some (NotQuiet queue why)) old new came = up-to-at queue (Ok (reply.NotQuiet why)) old new came
 came-at None old new came = up-to-at came.0 (Err HistoryFull) old new came.1
 
-joined-at : (ps qs : List QueuePass) → turnstiles (joined_passes ps qs) ≡ turnstiles ps
-joined-at ps [] = refl
-joined-at [] (q ∷ qs) = refl
-joined-at (p ∷ ps) (q ∷ qs) = ap (λ ts. p.turnstile ∷ ts) (joined-at ps qs)
-
 gathered-at : (ps : List QueuePass) (callers : List (List QueuePass)) → turnstiles (gathered ps callers) ≡ turnstiles ps
 gathered-at ps [] = refl
-gathered-at ps (caller ∷ callers) = gathered-at (joined_passes ps caller) callers ∙ joined-at ps caller
+gathered-at ps (caller ∷ callers) = gathered-at (joined_passes ps caller) callers ∙ turnstiles-joined ps caller
 
 pub at-queues : (config : Config) (lines : List LineView) (ps : List QueuePass) → AreAtQueues config lines → turnstiles ps ≡ places lines → AllByRecursion (IsAtQueue config) ps
 at-queues config lines [] at beside = tt
