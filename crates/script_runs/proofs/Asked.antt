@@ -9,7 +9,8 @@ use Rattle.script_runs.specs.Told as script
 use Rattle.script_runs.specs.declared.producer.answer.Answer.{Answer}
 use Rattle.script_runs.specs.declared.producer.answer.Answer.TheVariants as answer
 use Rattle.script_runs.specs.Telling.{AloneProduces, AreAskedBefore, AsksEachOnce, AsksLast, AsksOnce, AsksUpTo, BeginsEmpty, EndsAsking, HasTold, IsAnswered, IsAsked, IsNewNumber, ProducesAlone, Tells, TellsUnlessLimit, answer_of, printed_lines, told_at, with_missed}
-use Rattle.script_runs.proofs.Placing.{set-at, set-here, zip-set}
+use Rattle.silo_loops.proofs.Working.{get-set}
+use Rattle.script_runs.proofs.Placing.{set-at, zip-set}
 use Rattle.script_runs.proofs.Replying.{IsToldAlike, line-none, line-printed, line-told}
 
 -- ---- one call
@@ -67,7 +68,7 @@ step-told old new queue op r number missed lines produces free calls begins alon
 step-tells : (old new : List QueuePass) (queue : ℕ) (op : Op) (r : Reply) → is_producer op ≡ true → answer_of r ≢ answer.Limit → CallerCalls old queue op (Ok r) new → Tells old (command.Step queue op) (answer_of r) new
 step-tells old new queue op r produces free calls =
     let was = calls.was in
-    let here : slice_get new queue ≡ Some calls.is = ap (λ (es : List QueuePass). slice_get es queue) calls.whole ∙ set-here old queue was calls.is calls.had in
+    let here : slice_get new queue ≡ Some calls.is = ap (λ (es : List QueuePass). slice_get es queue) calls.whole ∙ get-set old queue was calls.is calls.had in
     record {
       told = λ begins alone missed lines number fresh has. step-told old new queue op r number missed lines produces free calls begins alone fresh has;
       printed = λ begins alone missed lines number fresh has silos.

@@ -14,11 +14,6 @@ module _ {A : Type 0} where
         | inr there ↦ inr ((λ same. there.0 (omega arith)), there.1)
       ]
 
-  pub set-here : (xs : List A) (k : ℕ) (x y : A) → slice_get xs k ≡ Some x → slice_get (slice_set xs k y) k ≡ Some y
-  set-here [] k x y had = absurd (cc)
-  set-here (w ∷ xs) zero x y had = refl
-  set-here (w ∷ xs) (suc k) x y had = set-here xs k x y had
-
 module _ {A : Type 0} (R : A → A → Type 0) where
   pub zip-set : ((x : A) → R x x) → (xs : List A) (k : ℕ) (x y : A) → slice_get xs k ≡ Some x → R x y → AllZip R xs (slice_set xs k y)
   zip-set same [] k x y had holds = absurd (cc)

@@ -7,6 +7,7 @@ use Rattle.stream_laws.proofs.KeyLists.{each-entry, entry-found}
 use Rattle.stream_laws.proofs.LawsOfEvents.{records_agree-from}
 use Rattle.stream_laws.proofs.LawsOfQuiet.{quiet_is_done-from}
 use Rattle.stream_laws.proofs.UniqueSteps.{steady-legal}
+use Rattle.step_core.proofs.NumberedOps.{All-unmap}
 use Rattle.script_runs.proofs.Registrations.{registered, registrations}
 use Rattle.script_runs.proofs.ToldSteps.{IsImplied, IsImpliedBy, all_given, given_by, given_of, told-legal}
 use Rattle.script_runs.specs.ScriptLaws.{ExplicitAreTold, ImplicitAreOwed, OpenHaveAll, is_explicit}
@@ -64,10 +65,6 @@ explicit-told blocks limits history p stands =
     ∙ (ap (filter_map (told_one history)) (told-legal blocks limits history p stands).given ∙ sym (given-all history history))
 
 -- ---- implicit ones
-
-All-unmap : {X Y : Type 0} (Q : Y → Type 0) (f : X → Y) (xs : List X) → AllByRecursion Q (map f xs) → AllByRecursion (λ (x : X). Q (f x)) xs
-All-unmap Q f [] all = tt
-All-unmap Q f (x ∷ xs) all = (all.0, All-unmap Q f xs all.1)
 
 -- the record of an implicit name
 pub implied-record : (blocks : ℕ) (limits : Limits) (history : List Entry) (p : PlainPartition) → Stands blocks limits history p
