@@ -1,5 +1,5 @@
 -- A worker ends a turn, done by the parts.
-use Rattle.step_core.proofs.Prelude.{PlainActivation, commit_turn, current_turn, holds, is_turn, without_turn, committed, RunningTurn, Delivery, activation_at, no_grain, PlainGrains, number_of, PlainRegistry, Registration, ◌≡◌, ◌∙◌, ap, ap₂, sym, subst, refl, ℕ, suc, ◌<◌, Bool, true, false, ◌&&◌, not, List, [], ◌∷◌, ◌++◌, length, Option, Some, None, ◌==◌, pred, nat_le, arith, and_from, cond_both, eq-eqb, false≢true, le-leb, AllByRecursion, list_any, option_map, if◌then◌else◌, place_of-key, same_sub-refl, same_grain, same_sub, change_at, past, GrainId, SubName, Token, marks_of, running_of, grain-fits, AreIn, IsWithinLimits, running_positions, grain_at, running_in, sub_at, token_at, with_sub, Reply, takes_memory, Grain, PlainPartition, Subscription, PlainTable, no_entry, no_state, state_at, with_state}
+use Rattle.step_core.proofs.Prelude.{PlainActivation, commit_turn, current_turn, holds, is_turn, without_turn, committed, RunningTurn, Delivery, activation_at, no_grain, PlainGrains, number_of, PlainRegistry, Registration, ◌≡◌, ◌∙◌, ap, ap₂, sym, subst, refl, ℕ, suc, ◌<◌, Bool, true, false, ◌&&◌, not, List, [], ◌∷◌, ◌++◌, length, Option, Some, None, ◌==◌, pred, nat_le, arith, and_from, cond_both, eq-eqb, false≢true, le-leb, AllByRecursion, list_any, option_map, if◌then◌else◌, place_of-key, same_sub-refl, same_grain, same_sub, change_at, past, GrainId, SubName, Token, marks_of, running_of, grain-fits, AreIn, IsWithinLimits, running_positions, grain_at, running_in, sub_at, token_at, with_sub, Reply, takes_memory, Grain, PlainPartition, Subscription, PlainTable, no_entry, no_state, state_at, with_state, or_right}
 use Rattle.stream_model.specs.declared.plain.RunningTurn as plain_turn
 use Rattle.stream_model.specs.declared.reply.Reply.TheVariants as reply
 use Rattle.stream_model.specs.Turns as plain
@@ -18,7 +18,7 @@ use Rattle.step_core.specs.TurnReplies.{handle}
 use Rattle.step_core.specs.Records.{record_of}
 use Rattle.step_core.specs.View.{grain_of, name_at, turn_of}
 use Rattle.step_core.proofs.GrainOps.{grain-found, grain-new, grain-set}
-use Rattle.step_core.proofs.KnownOps.{known-grain, known-state, or-right}
+use Rattle.step_core.proofs.KnownOps.{known-grain, known-state}
 use Rattle.step_core.proofs.KnownTurns.{ended-holds}
 use Rattle.step_core.proofs.NamesOps.{number-of-name, record-of-number}
 use Rattle.step_core.proofs.NumberedOps.{HasGrain, All-change_at, change_at-by, grain-below, grain-within}
@@ -220,7 +220,7 @@ commit-known {parts} {g} {i} {activation} {turn} {run} note runs =
     let a = activation_at parts.grains i in
     let known = runs.has.agrees.assembled.known in
     let theirs : IsOf names parts.grains run.sub i = subst (λ (h : GrainId). same_grain h (grains.grain_at parts.grains i) ≡ true) (sym (running-grain runs)) (place_of-key same_grain g parts.grains no_grain i runs.has.found) in
-    let held : holds run.sub a ≡ true = or-right (list_any (λ (d : Delivery). run.sub == d.sub) a.mailbox) (holding.runs run.sub a.running) (ap (holding.runs run.sub) (is-running runs) ∙ eq-eqb run.sub run.sub refl) in
+    let held : holds run.sub a ≡ true = or_right (list_any (λ (d : Delivery). run.sub == d.sub) a.mailbox) (holding.runs run.sub a.running) (ap (holding.runs run.sub) (is-running runs) ∙ eq-eqb run.sub run.sub refl) in
     let handled : AreKnown names (handle parts.subs parts.queue run note).0.states parts.grains =
     cond_both (state_at parts.subs run.sub).live _ _ (λ (out : PlainTable × Reply). AreKnown names out.0.states parts.grains)
     (λ _. known-state names parts.subs.states parts.grains run.sub (committed run.positions note (state_at parts.subs run.sub)) known (omega (arith, running-below runs, runs.has.agrees.records.long))

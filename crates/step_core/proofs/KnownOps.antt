@@ -1,5 +1,5 @@
 -- What each change leaves of what the grains know.
-use Rattle.step_core.proofs.Prelude.{PlainActivation, holds, new_activation, runs, with_number, woken, Delivery, SubState, activation_at, no_grain, Registration, ◌≡◌, ◌≢◌, ◌⊎◌, ◌∙◌, ap, sym, subst, refl, ℕ, zero, suc, ◌<◌, Bool, true, false, ◌||◌, nat_lt, List, [], ◌∷◌, ◌++◌, length, map, get_or, set, Some, None, arith, inl, inr, cases_eq, eq-eqb, eqb-true, false≢true, ne_eqb, or_from, or_parts, get_or-map, get_or-set_other, get_or-set_same, get_or_append_left, length-append, list_any, if◌then◌else◌, first_at-None, place_of-key, same_grain-equal, same_grain-refl, length-change_at, set-change_at, same_grain, change_at, place_of, GrainId, SubName, place_of-within, is_in, no_entry, no_state, rewound_open, ◌==◌}
+use Rattle.step_core.proofs.Prelude.{PlainActivation, holds, new_activation, runs, with_number, woken, Delivery, SubState, activation_at, no_grain, Registration, ◌≡◌, ◌≢◌, ◌⊎◌, ◌∙◌, ap, sym, subst, refl, ℕ, zero, suc, ◌<◌, Bool, true, false, ◌||◌, nat_lt, List, [], ◌∷◌, ◌++◌, length, map, get_or, set, Some, None, arith, inl, inr, cases_eq, eq-eqb, eqb-true, false≢true, ne_eqb, or_from, or_parts, get_or-map, get_or-set_other, get_or-set_same, get_or_append_left, length-append, list_any, if◌then◌else◌, first_at-None, place_of-key, same_grain-equal, same_grain-refl, length-change_at, set-change_at, same_grain, change_at, place_of, GrainId, SubName, place_of-within, is_in, no_entry, no_state, rewound_open, ◌==◌, or_right}
 use Rattle.std.proofs.lemmas.List.Folds.{list_any-append}
 use Rattle.grain_table.specs.Changes.{grain_at}
 use Rattle.step_core.specs.Known.{AreKnown, IsOf, IsUnheld, IsUnknown, IsUntouched}
@@ -215,10 +215,6 @@ known-grain names states grains j f known inside knows holds_less =
 
 -- ---- numbers among others
 
-pub or-right : (a b : Bool) → b ≡ true → (a || b) ≡ true
-or-right true b is = refl
-or-right false b is = is
-
 with-number-in : (n : ℕ) (ms : List ℕ) → is_in (with_number n ms) n ≡ true
 with-number-in n [] = rw (eq-eqb n n refl) refl
 with-number-in n (m ∷ ms) = by (nat_lt n m) (n == m) refl (with-number-in n ms)
@@ -227,7 +223,7 @@ with-number-in n (m ∷ ms) = by (nat_lt n m) (n == m) refl (with-number-in n ms
         → is_in (if less then n ∷ m ∷ ms else if same then m ∷ ms else m ∷ with_number n ms) n ≡ true
     by true same is rest = rw (eq-eqb n n refl) refl
     by false true is rest = rw (eq-eqb m n (sym (eqb-true n m is))) refl
-    by false false is rest = or-right (m == n) (is_in (with_number n ms) n) rest
+    by false false is rest = or_right (m == n) (is_in (with_number n ms) n) rest
 
 -- another number is among them where it was
 with-number-other : (n k : ℕ) (ms : List ℕ) → k ≢ n → is_in (with_number n ms) k ≡ is_in ms k

@@ -1,5 +1,5 @@
 -- What grains know where records are added, where turns begin and end, and where a grain leaves memory.
-use Rattle.step_core.proofs.Prelude.{PlainActivation, front_of, holds, runs, RunningTurn, Delivery, SubState, Begun, activation_at, no_grain, Registration, ◌≡◌, ◌⊎◌, ◌∙◌, ap, sym, subst, refl, ℕ, zero, suc, ◌+◌, ◌-◌, ◌<◌, ◌≤◌, Bool, true, false, ◌&&◌, not, List, [], ◌∷◌, ◌++◌, length, drop, get_or, Option, Some, None, nat_lt, arith, inl, inr, cases_lt, cond_both, false≢true, ne_eqb, or_from, or_parts, get_or-append-add, get_or-map, get_or_append_left, length-append, AllByRecursion, list_any, if◌then◌else◌, is_some, place_of-key, same_grain-equal, same_grain-refl, All-at, turn_size, same_grain, place_of, GrainId, SubName, place_of-within, rewound_where, is_open_of, PlainTable, is_in, new_states, no_entry, no_state, rewound_open, state_at, AreRewound, ◌==◌}
+use Rattle.step_core.proofs.Prelude.{PlainActivation, front_of, holds, runs, RunningTurn, Delivery, SubState, Begun, activation_at, no_grain, Registration, ◌≡◌, ◌⊎◌, ◌∙◌, ap, sym, subst, refl, ℕ, zero, suc, ◌+◌, ◌-◌, ◌<◌, ◌≤◌, Bool, true, false, ◌&&◌, not, List, [], ◌∷◌, ◌++◌, length, drop, get_or, Option, Some, None, nat_lt, arith, inl, inr, cases_lt, cond_both, false≢true, ne_eqb, or_from, or_parts, get_or-append-add, get_or-map, get_or_append_left, length-append, AllByRecursion, list_any, if◌then◌else◌, is_some, place_of-key, same_grain-equal, same_grain-refl, All-at, turn_size, same_grain, place_of, GrainId, SubName, place_of-within, rewound_where, is_open_of, PlainTable, is_in, new_states, no_entry, no_state, rewound_open, state_at, AreRewound, ◌==◌, get_or_default}
 use Rattle.consumer_grain.specs.Activations.{begin, begin_front, begin_turn}
 use Rattle.consumer_grain.specs.declared.told.Begun.TheVariants as begun
 use Rattle.grain_table.specs.Changes.{grain_at}
@@ -141,18 +141,13 @@ known-deactivated numbers old new grains lengths known rewound =
       ),
     ))
 
-any-default : {A : Type 0} (xs : List A) (i : ℕ) (d e : A) → i < length xs → get_or xs i d ≡ get_or xs i e
-any-default [] i d e within = absurd (omega (arith, within))
-any-default (x ∷ xs) zero d e within = refl
-any-default (x ∷ xs) (suc i) d e within = any-default xs i d e (omega (arith, within))
-
 -- the numbers that a grain knows are all whose cursors have to go back
 pub rewound-is : (parts : Parts) (g : GrainId) (j : ℕ) (new : PlainTable) → length parts.subs.states ≡ length parts.subs.registry.names → AreKnown parts.subs.registry.names parts.subs.states parts.grains → table.AreDistinct parts.grains
     → place_of same_grain g parts.grains ≡ Some j → AreRewound (activation_at parts.grains j).subs parts.subs new → deactivating.AreRewound g parts new.states
 rewound-is parts g j new lengths known distinct found rewound i d e within =
-    subst P (any-default names i no_entry d within) (
-    subst (λ s. Q no_entry s e) (any-default new.states i no_state e (omega (arith, within, lengths, rewound.long)))
-    (subst (λ s. Same (get_or names i no_entry) (state_at new i) s) (any-default states i no_state e (omega (arith, within, lengths))) (is (is_in numbers i) refl)))
+    subst P (get_or_default names i no_entry d within) (
+    subst (λ s. Q no_entry s e) (get_or_default new.states i no_state e (omega (arith, within, lengths, rewound.long)))
+    (subst (λ s. Same (get_or names i no_entry) (state_at new i) s) (get_or_default states i no_state e (omega (arith, within, lengths))) (is (is_in numbers i) refl)))
   where
     names : List (SubName × Registration)
     names = parts.subs.registry.names
