@@ -1,5 +1,5 @@
 -- What an operation keeps of the records: who was subscribed to what, and the rules.
-use Rattle.script_runs.proofs.Prelude.{◌≡◌, ◌∙◌, ap, sym, refl, ℕ, ◌+◌, ◌==◌, ◌&&◌, ◌||◌, not, nat_lt, false, List, [], ◌∷◌, length, map, Option, Some, None, cond_both, same_grain, same_sub, each_value, GrainId, StreamId, SubName, BATCH_EVENTS, Token, grain_at, is_spent, sub_at, is_stale, rewound, rewound_where, Reply, PlainPartition, Subscription}
+use Rattle.script_runs.proofs.Prelude.{◌≡◌, ◌∙◌, ap, sym, refl, ℕ, ◌+◌, ◌==◌, ◌&&◌, ◌||◌, not, nat_lt, false, List, length, map, Option, Some, None, cond_both, same_grain, same_sub, GrainId, StreamId, SubName, BATCH_EVENTS, Token, grain_at, is_spent, sub_at, is_stale, rewound, rewound_where, Reply, PlainPartition, Subscription}
 use Rattle.std.proofs.lemmas.Simd.{map-map}
 use Rattle.stream_ident.specs.declared.ident.SubName.TheVariants as name
 use Rattle.stream_model.specs.Publishing.{publish, unsubscribe, unsubscribe_from}
@@ -23,11 +23,6 @@ registered entry = record { name = entry.0; stream = entry.1.stream; grain = ent
 
 abbrev pub registrations : List (SubName × Subscription) → List Registration
 registrations subs = map registered subs
-
-registrations-each_value : (change : Subscription → Subscription) → ((entry : SubName × Subscription) → registered (entry.0, change entry.1) ≡ registered entry)
-    → (subs : List (SubName × Subscription)) → registrations (each_value change subs) ≡ registrations subs
-registrations-each_value change alike [] = refl
-registrations-each_value change alike (entry ∷ subs) = λ i. alike entry i ∷ registrations-each_value change alike subs i
 
 -- an operation leaves the registrations, the rules and the last number as they were
 abbrev pub Keeps : PlainPartition → PlainPartition × Reply → Type 0
@@ -75,11 +70,11 @@ pub keeps-move : (p : PlainPartition) (silo : ℕ) → Keeps p (move p silo)
 unfolding move move_to
 keeps-move p silo =
     cond_both (is_spent p) _ _ (Keeps p) (λ _. (refl, refl, refl))
-    (λ _. (registrations-each_value (λ (r : Subscription). rewound_where r.is_open r) (λ entry. refl) p.subs, refl, refl))
+    (λ _. (map-map registered (λ (entry : SubName × Subscription). (entry.0, rewound_where entry.1.is_open entry.1)) p.subs, refl, refl))
 
 pub keeps-deactivate : (p : PlainPartition) (g : GrainId) → Keeps p (deactivate p g)
 unfolding deactivate deactivate_in
 keeps-deactivate p g =
     let st = grain_at p g in
     cond_both (not st.active) _ _ (Keeps p) (λ _. (refl, refl, refl))
-    (λ _. (registrations-each_value (λ (r : Subscription). rewound_where (same_grain g r.grain && r.is_open) r) (λ entry. refl) p.subs, refl, refl))
+    (λ _. (map-map registered (λ (entry : SubName × Subscription). (entry.0, rewound_where (same_grain g entry.1.grain && entry.1.is_open) entry.1)) p.subs, refl, refl))
