@@ -1,9 +1,5 @@
 -- What a step comes to, in each case.
-use Rattle.std.proofs.Common.{◌≡◌, ℕ, suc, true, false, Option, Some, None, is_some, refl}
-use Rattle.std.specs.Prelude.{nat_lt, ◌==◌}
-use Rattle.std.proofs.lemmas.Bool.{cond_both}
-use Rattle.stream_ident.specs.declared.ident.GrainId.{GrainId}
-use Rattle.stream_ident.specs.Words.{has_number}
+use Rattle.activation_directory.proofs.Prelude.{◌≡◌, ℕ, suc, true, false, Option, Some, None, is_some, refl, cond_both, nat_lt, ◌==◌, has_number, GrainId}
 use Rattle.activation_directory.specs.declared.op.DirectoryOp.{DirectoryOp}
 use Rattle.activation_directory.specs.declared.op.DirectoryOp.TheVariants.{Enter, Leave, Unplace, Down}
 use Rattle.activation_directory.specs.declared.place.Place.{Place}

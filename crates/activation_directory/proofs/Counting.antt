@@ -1,8 +1,5 @@
 -- How many permits a history gives, and their numbers.
-use Rattle.std.proofs.Common.{◌≡◌, ◌∙◌, ℕ, suc, ◌+◌, ◌≤◌, Bool, true, false, List, [], ◌∷◌, length, filter, Option, refl, sym, ap, subst, arith}
-use Rattle.std.specs.Prelude.{if◌then◌else◌}
-use Rattle.std.proofs.lemmas.Bool.{ltb-true, ltb-false}
-use Rattle.stream_ident.specs.declared.ident.GrainId.{GrainId}
+use Rattle.activation_directory.proofs.Prelude.{◌≡◌, ◌∙◌, ℕ, suc, ◌+◌, ◌≤◌, Bool, true, false, List, [], ◌∷◌, length, filter, Option, refl, sym, ap, subst, arith, ltb-true, ltb-false, if◌then◌else◌, GrainId}
 use Rattle.activation_directory.specs.declared.op.DirectoryOp.{DirectoryOp}
 use Rattle.activation_directory.specs.declared.place.Place.{Place}
 use Rattle.activation_directory.specs.declared.reply.DirectoryReply.{DirectoryReply}

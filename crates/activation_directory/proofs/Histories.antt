@@ -1,7 +1,6 @@
 -- A legal history in two parts, and what an entry of it adds to what is found in it.
-use Rattle.std.proofs.Common.{ℕ, List, [], ◌∷◌, ◌++◌, refl}
+use Rattle.activation_directory.proofs.Prelude.{ℕ, List, [], ◌∷◌, ◌++◌, refl, GrainId}
 use Rattle.std.proofs.lemmas.List.Elements.{Contains-append_right}
-use Rattle.stream_ident.specs.declared.ident.GrainId.{GrainId}
 use Rattle.activation_directory.specs.Laws.{IsFreed, left, released}
 use Rattle.activation_directory.specs.Plain.{PlainDirectory}
 use Rattle.activation_directory.specs.Step.{Entry, Leads, step}

@@ -1,10 +1,6 @@
 -- A permit that is out stays out until it is given back or the grain is taken from the silo that had it.
-use Rattle.std.proofs.Common.{◌≡◌, ◌∙◌, ℕ, suc, true, false, List, [], ◌∷◌, ◌++◌, Option, Some, None, refl, sym, ap, subst, arith}
-use Rattle.std.specs.Prelude.{◌⊎◌, ◌==◌}
-use Rattle.std.proofs.lemmas.Bool.{cond_both, eqb-true}
+use Rattle.activation_directory.proofs.Prelude.{◌≡◌, ◌∙◌, ℕ, suc, true, false, List, [], ◌∷◌, ◌++◌, Option, Some, None, refl, sym, ap, subst, arith, cond_both, eqb-true, ◌⊎◌, ◌==◌, same_grain-equal, same_grain, GrainId}
 use mathlib.Core.Logic.{inl, inr}
-use Rattle.stream_ident.specs.declared.ident.GrainId.{GrainId}
-use Rattle.stream_ident.specs.Name.{same_grain}
 use Rattle.activation_directory.specs.declared.op.DirectoryOp.{DirectoryOp}
 use Rattle.activation_directory.specs.declared.op.DirectoryOp.TheVariants.{Enter, Leave, Unplace, Down}
 use Rattle.activation_directory.specs.declared.place.Place.{Place}
@@ -15,7 +11,6 @@ use Rattle.activation_directory.specs.Placed.{place_in, without, least_on, count
 use Rattle.activation_directory.specs.Plain.{PlainDirectory}
 use Rattle.activation_directory.specs.Step.{Entry, Leads, enter, leave, unplace, down, step}
 use Rattle.activation_directory.proofs.Cases.{enter-cases, leave-cases, unplace-cases}
-use Rattle.stream_ident.proofs.SameValues.{same_grain-equal}
 use Rattle.activation_directory.proofs.Histories.{IsFreed-later}
 use Rattle.activation_directory.proofs.PlacedLemmas.{place_in-here, place_in-other, place_in-without}
 use Rattle.activation_directory.proofs.Unique.{IsPlacedOn, IsUnique, least_on-placed, unique-step}

@@ -7,3 +7,4 @@ mod Others
 mod PlacedLemmas
 mod Unique
 mod Walk
+pub mod Prelude

@@ -1,5 +1,5 @@
 -- One permit of a grain is out at a time.
-use Rattle.std.proofs.Common.{◌∷◌, ◌++◌}
+use Rattle.activation_directory.proofs.Prelude.{◌∷◌, ◌++◌}
 use Rattle.activation_directory.specs.Laws.{entered, OnePermitAtATime}
 use Rattle.activation_directory.specs.Placed.{place_in}
 use Rattle.activation_directory.specs.Plain.{empty}

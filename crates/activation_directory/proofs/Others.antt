@@ -1,10 +1,7 @@
 -- How many grains are left on a silo where one of them is taken out.
-use Rattle.std.proofs.Common.{◌≡◌, ◌∙◌, ℕ, ◌+◌, true, false, [], ◌∷◌, Option, Some, None, refl, sym, ap, arith}
-use Rattle.std.specs.Prelude.{IfSome, ◌==◌, if◌then◌else◌}
+use Rattle.activation_directory.proofs.Prelude.{◌≡◌, ◌∙◌, ℕ, ◌+◌, true, false, [], ◌∷◌, Option, Some, None, refl, sym, ap, arith, IfSome, ◌==◌, if◌then◌else◌, same_grain, GrainId}
 use Rattle.std.specs.List.{AllByRecursion, IsDistinct}
 use Rattle.std.specs.Map.{keys_of}
-use Rattle.stream_ident.specs.declared.ident.GrainId.{GrainId}
-use Rattle.stream_ident.specs.Name.{same_grain}
 use Rattle.activation_directory.specs.declared.place.Place.{Place}
 use Rattle.activation_directory.specs.Placed.{Placed, place_in, without, least_on, count_on}
 use Rattle.activation_directory.proofs.Unique.{IsPlacedOn, IsUnique, least_on-placed}

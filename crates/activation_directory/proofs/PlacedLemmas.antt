@@ -1,11 +1,8 @@
 -- The place of a grain after a change of the directory.
-use Rattle.std.proofs.Common.{◌≡◌, false, [], ◌∷◌, Option, Some, if◌then◌else◌, refl, ap, subst}
-use Rattle.std.proofs.lemmas.Bool.{cond_both}
-use Rattle.stream_ident.specs.declared.ident.GrainId.{GrainId}
-use Rattle.stream_ident.specs.Name.{same_grain}
+use Rattle.activation_directory.proofs.Prelude.{◌≡◌, false, [], ◌∷◌, Option, Some, refl, ap, subst, cond_both, same_grain-equal, same_grain-refl, same_grain, GrainId}
+use Rattle.std.proofs.Common.{if◌then◌else◌}
 use Rattle.activation_directory.specs.declared.place.Place.{Place}
 use Rattle.activation_directory.specs.Placed.{Placed, place_in, with_place, without}
-use Rattle.stream_ident.proofs.SameValues.{same_grain-equal, same_grain-refl}
 
 -- the grain that was given a place has it
 pub place_in-here : (placed : Placed) (grain : GrainId) (place : Place) → place_in (with_place placed grain place) grain ≡ Some place

@@ -1,18 +1,12 @@
 -- In each directory that a legal history leaves, a grain is placed once. So the least grain of a silo is
 -- placed on that silo.
-use Rattle.std.proofs.Common.{◌≡◌, ◌∙◌, ℕ, true, false, List, [], ◌∷◌, Option, Some, None, refl, sym, ap, subst, true≢false}
-use Rattle.std.specs.Prelude.{◌==◌}
-use Rattle.std.proofs.lemmas.Bool.{cond_both, false_from_ne_true}
-use Rattle.stream_ident.specs.declared.ident.GrainId.{GrainId}
-use Rattle.stream_ident.specs.Name.{grain_lt, same_grain}
+use Rattle.activation_directory.proofs.Prelude.{◌≡◌, ◌∙◌, ℕ, true, false, List, [], ◌∷◌, Option, Some, None, refl, sym, ap, subst, true≢false, cond_both, false_from_ne_true, ◌==◌, same_grain-equal, same_grain-refl, grain_lt, same_grain, lesser, GrainId}
 use Rattle.activation_directory.specs.declared.op.DirectoryOp.{DirectoryOp}
 use Rattle.activation_directory.specs.declared.place.Place.{Place}
-use Rattle.stream_ident.specs.Words.{lesser}
 use Rattle.activation_directory.specs.Placed.{Placed, place_in, with_place, without, least_on}
 use Rattle.activation_directory.specs.Plain.{PlainDirectory}
 use Rattle.activation_directory.specs.Step.{Entry, Leads, step}
 use Rattle.activation_directory.proofs.Cases.{step-cases}
-use Rattle.stream_ident.proofs.SameValues.{same_grain-equal, same_grain-refl}
 use Rattle.activation_directory.proofs.PlacedLemmas.{place_in-other, place_in-without}
 
 -- no grain has a second entry

@@ -1,10 +1,6 @@
 -- A walk over the entries from the last to the first.
-use Rattle.std.proofs.Common.{◌≡◌, ◌∙◌, ap, sym, ℕ, zero, suc, ◌+◌, ◌-◌, ◌<◌, true, false, [], ◌∷◌, Option, Some, drop, slice_get, arith}
-use Rattle.std.specs.Prelude.{◌==◌}
-use Rattle.stream_ident.specs.declared.ident.GrainId.{GrainId}
-use Rattle.stream_ident.specs.Name.{grain_lt}
+use Rattle.activation_directory.proofs.Prelude.{◌≡◌, ◌∙◌, ap, sym, ℕ, zero, suc, ◌+◌, ◌-◌, ◌<◌, true, false, [], ◌∷◌, Option, Some, drop, slice_get, arith, ◌==◌, grain_lt, lesser, GrainId}
 use Rattle.activation_directory.specs.declared.place.Place.{Place}
-use Rattle.stream_ident.specs.Words.{lesser}
 use Rattle.activation_directory.specs.Placed.{Placed, least_on, count_on}
 
 -- the entry at a place is the first of those from there on

@@ -1,1 +1,2 @@
 pub mod SeekLemmas
+pub mod Prelude

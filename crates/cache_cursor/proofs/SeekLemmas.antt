@@ -1,17 +1,13 @@
 -- Events that tags rule out, first places in a block and in the cache, and what `first_at` gives for them.
-use Rattle.std.proofs.Common.{◌≡◌, ◌≢◌, ℕ, suc, [], ◌∷◌, map, set, inl, inr, get_or-set_same, get_or-set_other, refl, ◌+◌, ◌-◌, ◌*◌, ◌<◌, ◌≤◌, Bool, true, false, List, length, get_or, take, drop, Some, None, sym, ◌∙◌, ap, subst, arith, ⊎_elim, ◌↔◌, length-drop, length-take}
+use Rattle.cache_cursor.proofs.Prelude.{bare, tag_of, tags_of, ◌≡◌, ◌≢◌, ℕ, suc, [], ◌∷◌, map, set, inl, inr, get_or-set_same, get_or-set_other, refl, ◌+◌, ◌-◌, ◌*◌, ◌<◌, ◌≤◌, Bool, true, false, List, length, get_or, take, drop, Some, None, sym, ◌∙◌, ap, subst, arith, ⊎_elim, ◌↔◌, length-drop, length-take, unwrap_or, is_owed, no_event, Event}
 use Rattle.std.proofs.lemmas.Bool.{both_ways, cases_Bool, cases_eq, cases_lt}
 use Rattle.std.proofs.lemmas.List.{get_or-map, get_or-take, get_or-drop, get_or_read}
-use Rattle.std.specs.Prelude.{unwrap_or}
 use Rattle.std.specs.Int.{bit_at}
-use Rattle.stream_ident.specs.declared.event.Event.{Event}
 use Rattle.stream_ident.specs.declared.ident.StreamId.{StreamId}
 use Rattle.stream_ident.specs.declared.token.Token.{Token}
-use Rattle.stream_ident.specs.Event.{is_owed, no_event}
 use Rattle.stream_ident.specs.Words.{first_at}
 use Rattle.stream_ident.specs.declared.limits.TheConstants.{BLOCK_EVENTS}
 use Rattle.queue_cache.specs.Cache.{event_at, high, PlainCache}
-use Rattle.queue_mapper.specs.Place.{bare, tag_of, tags_of}
 use Rattle.tag_scan.specs.Tags.{IsAbsentBetween}
 use Rattle.stream_ident.specs.Name.{same_stream}
 use Rattle.stream_ident.proofs.FirstLemmas.{first_at-nowhere, first_at-there}

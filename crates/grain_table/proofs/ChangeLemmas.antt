@@ -1,23 +1,12 @@
 -- One activation of a table changed.
-use Rattle.std.proofs.Common.{◌≡◌, ◌∙◌, ap, ap₂, sym, refl, subst, ℕ, zero, suc, ◌<◌, true, false, true≢false, List, [], ◌∷◌, length, get_or, set, Some, arith, ◌+◌, ◌≤◌, filter, if◌then◌else◌, Bool, ◌++◌, is_some, None, Bor, Option, slice_index, nat_lt, ◌&&◌, not, IsTrue, ◌↔◌, ◌^◌, length-set, get_or-set_same}
-use Rattle.std.proofs.lemmas.Bool.{false_from_ne_true, lt-ltb}
-use Rattle.std.proofs.lemmas.List.{get_or_default, get_or_push, length_push}
-use Rattle.std.specs.Option.{option_copied}
-use Rattle.stream_ident.specs.declared.ident.GrainId.{GrainId}
-use Rattle.stream_ident.specs.Name.{grain_lt, same_grain}
-use Rattle.stream_ident.specs.Words.{change_at}
-use Rattle.stream_ident.proofs.NameOrders.{grain_order}
+use Rattle.grain_table.proofs.Prelude.{PlainActivation, ranked-set, IsListed, AreRanked, ◌≡◌, ◌∙◌, ap, ap₂, sym, refl, subst, ℕ, zero, suc, ◌<◌, true, false, true≢false, List, [], ◌∷◌, length, get_or, set, Some, arith, ◌+◌, ◌≤◌, filter, if◌then◌else◌, Bool, ◌++◌, is_some, None, Bor, Option, slice_index, nat_lt, ◌&&◌, not, IsTrue, ◌↔◌, ◌^◌, length-set, get_or-set_same, false_from_ne_true, lt-ltb, get_or_default, get_or_push, length_push, option_copied, grain_order, grain_lt, same_grain, change_at, GrainId}
 use Rattle.stream_ident.proofs.WordLemmas.{set-change_at}
-use Rattle.consumer_grain.specs.Activations.{PlainActivation}
 use Rattle.consumer_grain.specs.declared.activation.RunningTurn.{RunningTurn}
 use Rattle.consumer_grain.specs.declared.mailbox.Delivery.{Delivery}
 use Rattle.grain_table.specs.Grains.{PlainGrains, is_ready, is_running, AreDistinct, AreIdle}
 use Rattle.grain_table.specs.Changes.{no_grain, activation_at}
 use Rattle.grain_table.specs.Table.{is_entry_ready, name_of, running_in, standing_of, AreReady, IsKept, IsKeptBut, IsTable}
 use Rattle.grain_table.specs.declared.table.Standing.{Standing}
-use Rattle.ranked_index.specs.Listed.{IsListed}
-use Rattle.ranked_index.specs.Ranked.{AreRanked}
-use Rattle.ranked_index.proofs.EntryLemmas.{ranked-set}
 use Rattle.grain_table.proofs.TableLemmas.{distinct-ranked, read_entry}
 use Rattle.ranked_index.proofs.ListedLemmas.{listed-but, listed-more}
 

@@ -1,17 +1,7 @@
 -- The ready ones after one grain was looked at.
-use Rattle.std.proofs.Common.{◌≡◌, ◌∙◌, ap, sym, subst, ℕ, ◌+◌, ◌-◌, ◌<◌, ◌≤◌, Bool, true, false, List, [], ◌∷◌, ◌++◌, length, get_or, drop, slice_index, insert, remove, Option, Some, None, arith, true≢false, IsTrue, ◌↔◌, refl}
-use Rattle.std.proofs.lemmas.Bool.{false_from_ne_true, ltb-false}
-use Rattle.std.proofs.lemmas.List.{get_or_default}
-use Rattle.stream_ident.specs.declared.ident.GrainId.{GrainId}
-use Rattle.stream_ident.specs.Name.{grain_lt, same_grain}
-use Rattle.stream_ident.specs.Words.{keys_where, least}
+use Rattle.grain_table.proofs.Prelude.{PlainActivation, rank-before, ranked-insert, IsListed, entry_at, AreRanked, IsFirstPast, ◌≡◌, ◌∙◌, ap, sym, subst, ℕ, ◌+◌, ◌-◌, ◌<◌, ◌≤◌, Bool, true, false, List, [], ◌∷◌, ◌++◌, length, get_or, drop, slice_index, insert, remove, Option, Some, None, arith, true≢false, IsTrue, ◌↔◌, refl, false_from_ne_true, ltb-false, get_or_default, grain_order, grain_lt, same_grain, keys_where, least, GrainId}
 use Rattle.stream_ident.proofs.FirstLemmas.{first_at-None, first_at-Some, first_at-there}
-use Rattle.stream_ident.proofs.NameOrders.{grain_order}
 use Rattle.stream_ident.proofs.SameValues.{same_grain-equal}
-use Rattle.consumer_grain.specs.Activations.{PlainActivation}
-use Rattle.ranked_index.specs.Listed.{IsListed}
-use Rattle.ranked_index.specs.Ranked.{entry_at, AreRanked, IsFirstPast}
-use Rattle.ranked_index.proofs.EntryLemmas.{rank-before, ranked-insert}
 use Rattle.ranked_index.proofs.ListedLemmas.{listed-in, listed-insert, listed-last, listed-out, listed-remove, listed-room, next_listed-first, next_listed-none, next_listed-past}
 use Rattle.grain_table.specs.Changes.{no_grain, activation_at, grain_at}
 use Rattle.grain_table.specs.Grains.{PlainGrains, is_ready, number_of, ready_after, AreDistinct}

@@ -1,10 +1,6 @@
 -- A log to which a batch was written.
-use Rattle.std.proofs.Common.{◌≡◌, ◌∙◌, ap, ℕ, ◌+◌, ◌-◌, ◌<◌, ◌≤◌, ◌++◌, List, length, get_or, arith}
-use Rattle.std.specs.List.{AllByRecursion, concat}
+use Rattle.partition_queue.proofs.Prelude.{◌≡◌, ◌∙◌, ap, ℕ, ◌+◌, ◌-◌, ◌<◌, ◌≤◌, ◌++◌, List, length, get_or, arith, AllByRecursion, concat, IsPayload, events_of, StreamId}
 use Rattle.stream_ident.specs.declared.event.Event.{Event}
-use Rattle.stream_ident.specs.declared.ident.StreamId.{StreamId}
-use Rattle.stream_ident.specs.Alphabet.{IsPayload}
-use Rattle.stream_ident.specs.Event.{events_of}
 use Rattle.partition_queue.specs.declared.appended.Appended.{Appended}
 use Rattle.partition_queue.specs.declared.appended.Appended.TheVariants.{Accepted}
 use Rattle.partition_queue.specs.declared.queue.Entry.{Entry}

@@ -1,14 +1,10 @@
 -- The tokens of a log, and the events that are read of it.
-use Rattle.std.proofs.Common.{◌≡◌, ◌∙◌, ap, sym, refl, ℕ, suc, ◌+◌, ◌-◌, ◌<◌, ◌≤◌, inl, inr, true, List, ◌++◌, length, get_or, map, drop, take, length-append, arith}
+use Rattle.partition_queue.proofs.Prelude.{◌≡◌, ◌∙◌, ap, sym, refl, ℕ, suc, ◌+◌, ◌-◌, ◌<◌, ◌≤◌, inl, inr, true, List, ◌++◌, length, get_or, map, drop, take, length-append, arith, get_or_append_left, get_or-append_right, get_or-drop, get_or-map, get_or-take, length-drop, length-map, length-take, take-map, take-take, events_of, no_event, StreamId, BATCH_EVENTS}
 use Rattle.std.proofs.lemmas.Bool.{cases_lt, le-ltb, ne_eqb}
 use Rattle.std.proofs.lemmas.Bool.Decides.{nat_tests}
-use Rattle.std.proofs.lemmas.List.{get_or_append_left, get_or-append_right, get_or-drop, get_or-map, get_or-take, length-drop, length-map, length-take, take-map, take-take}
 use Rattle.stream_ident.specs.declared.event.Event.{Event}
-use Rattle.stream_ident.specs.declared.ident.StreamId.{StreamId}
 use Rattle.stream_ident.specs.declared.token.Token.{Token}
-use Rattle.stream_ident.specs.Event.{events_of, no_event}
 use Rattle.stream_ident.specs.Token.{token_lt}
-use Rattle.stream_ident.specs.declared.limits.TheConstants.{BATCH_EVENTS}
 use Rattle.stream_ident.proofs.EventLemmas.{length-events_of, events_of-token}
 use Rattle.queue_mapper.specs.Place.{bare}
 use Rattle.partition_queue.specs.declared.appended.Appended.{Appended}

@@ -1,3 +1,4 @@
 pub mod AppendLemmas
 pub mod EventLemmas
 pub mod LogLemmas
+pub mod Prelude

@@ -1,13 +1,7 @@
 -- What a log keeps gives its events: those that it had, and those of one more batch.
-use Rattle.std.proofs.Common.{◌≡◌, ◌∙◌, ap, sym, subst, refl, ℕ, zero, suc, ◌+◌, ◌*◌, ◌<◌, ◌≤◌, List, [], ◌∷◌, ◌++◌, length, get_or, map, take, drop, append_assoc, length-append, arith}
-use Rattle.std.specs.List.{AllByRecursion, concat}
+use Rattle.partition_queue.proofs.Prelude.{◌≡◌, ◌∙◌, ap, sym, subst, refl, ℕ, zero, suc, ◌+◌, ◌*◌, ◌<◌, ◌≤◌, List, [], ◌∷◌, ◌++◌, length, get_or, map, take, drop, append_assoc, length-append, arith, drop-append-le, take-append-le, length-drop, get_or_append_left, map-append, AllByRecursion, concat, IsPayload, events_of, StreamId, PAYLOAD_BYTES}
 use Rattle.std.proofs.Math.Seq.{drop-append_seam, take-append_seam}
-use Rattle.std.proofs.lemmas.List.{drop-append-le, take-append-le, length-drop, get_or_append_left, map-append}
-use Rattle.stream_ident.specs.declared.ident.StreamId.{StreamId}
 use Rattle.stream_ident.specs.declared.token.Token.{Token}
-use Rattle.stream_ident.specs.Alphabet.{IsPayload}
-use Rattle.stream_ident.specs.Event.{events_of}
-use Rattle.stream_ident.specs.declared.limits.TheConstants.{PAYLOAD_BYTES}
 use Rattle.stream_ident.proofs.EachOf.{All-append}
 use Rattle.partition_queue.specs.declared.queue.Entry.{Entry}
 use Rattle.partition_queue.specs.Log.{entries_of, event_of, events_in, no_stream, payload_in, token_of, Grows, IsEntry, IsKept}

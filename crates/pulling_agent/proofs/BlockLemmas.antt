@@ -1,8 +1,6 @@
 -- Blocks that leave a cache.
-use Rattle.std.proofs.Common.{◌≡◌, ◌∙◌, ap, refl, ℕ, ◌+◌, ◌*◌, ◌<◌, ◌≤◌, length, drop, length-drop, add-zero, arith}
-use Rattle.std.proofs.lemmas.List.{drop-drop}
+use Rattle.pulling_agent.proofs.Prelude.{PlainCache, without_front, ◌≡◌, ◌∙◌, ap, refl, ℕ, ◌+◌, ◌*◌, ◌<◌, ◌≤◌, length, drop, length-drop, add-zero, arith, drop-drop}
 use Rattle.stream_ident.specs.declared.limits.TheConstants.{BLOCK_EVENTS}
-use Rattle.queue_cache.specs.Cache.{PlainCache, without_front}
 use Rattle.pulling_agent.specs.Agent.{without_blocks}
 
 pub no_blocks : (c : PlainCache) → c ≡ without_blocks 0 c

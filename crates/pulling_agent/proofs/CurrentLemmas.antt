@@ -1,5 +1,5 @@
 -- What a call changed and told, where the caller speaks for the agent or for one that was replaced.
-use Rattle.std.proofs.Common.{◌≡◌, ap, refl, ℕ, Bool, true, false, ◌==◌}
+use Rattle.pulling_agent.proofs.Prelude.{◌≡◌, ap, refl, ℕ, Bool, true, false, ◌==◌}
 use Rattle.std.specs.Prelude.{if◌then◌else◌, Result, Ok, Err}
 use Rattle.pulling_agent.specs.Agent.{PlainAgent, if_current}
 use Rattle.pulling_agent.specs.declared.agent.StaleAgent.{StaleAgent}

@@ -1,13 +1,10 @@
 -- Events of a log that a cache takes in.
-use Rattle.std.proofs.Common.{◌≡◌, ◌∙◌, ap, sym, ℕ, ◌+◌, ◌-◌, ◌*◌, ◌/◌, ◌<◌, ◌≤◌, min, List, [], ◌∷◌, ◌++◌, length, map, take, drop, append_assoc, length-append, length-drop, arith}
-use Rattle.std.proofs.lemmas.List.{append-nil, get_or-drop, length-map, map-append, take_more}
+use Rattle.pulling_agent.proofs.Prelude.{PlainQueue, between, event_at, PlainCache, high, room, with_events, ◌≡◌, ◌∙◌, ap, sym, ℕ, ◌+◌, ◌-◌, ◌*◌, ◌/◌, ◌<◌, ◌≤◌, min, List, [], ◌∷◌, ◌++◌, length, map, take, drop, append_assoc, length-append, length-drop, arith, append-nil, get_or-drop, length-map, map-append, take_more}
 use Rattle.stream_ident.specs.declared.event.Event.{Event}
 use Rattle.stream_ident.specs.Event.{no_event}
 use Rattle.stream_ident.specs.declared.limits.TheConstants.{BLOCK_EVENTS}
-use Rattle.partition_queue.specs.Queue.{PlainQueue, between, event_at}
 use Rattle.partition_queue.proofs.EventLemmas.{length-between}
 use Rattle.queue_mapper.specs.Place.{bare}
-use Rattle.queue_cache.specs.Cache.{PlainCache, high, room, with_events}
 use Rattle.pulling_agent.specs.Agent.{CanTake, PlainAgent, fill, fill_up, take_next, take_planned, without_blocks}
 
 -- the cache with so many events more, which are the next of the log

@@ -1,16 +1,13 @@
 -- The search for a token among handled positions: they rise, and so do the tokens at them.
-use Rattle.std.proofs.Common.{◌≡◌, ◌∙◌, ap, sym, refl, inl, inr, ℕ, zero, suc, ◌+◌, ◌<◌, ◌≤◌, ◌≢◌, Bool, true, false, List, [], ◌∷◌, length, filter, get_or, Some, None, arith}
+use Rattle.pulling_agent.proofs.Prelude.{PlainQueue, TokensRise, event_at, token_at, ◌≡◌, ◌∙◌, ap, sym, refl, inl, inr, ℕ, zero, suc, ◌+◌, ◌<◌, ◌≤◌, ◌≢◌, Bool, true, false, List, [], ◌∷◌, length, filter, get_or, Some, None, arith, get_or-map, same_token, token_lt}
 use Rattle.std.specs.Bool.{then_some}
 use Rattle.std.specs.Prelude.{All, nat_le}
 use Rattle.std.proofs.lemmas.Bool.{and_parts, cases_lt, cases_order, false_from_ne_true, leb-true}
 use Rattle.std.proofs.lemmas.Bool.Decides.{nat_tests}
-use Rattle.std.proofs.lemmas.List.{get_or-map}
 use Rattle.std.proofs.lemmas.List.Elements.{All-get_or}
 use Rattle.stream_ident.specs.declared.token.Token.{Token}
 use Rattle.stream_ident.specs.Event.{batch_token, no_event}
-use Rattle.stream_ident.specs.Token.{same_token, token_lt}
 use Rattle.consumer_grain.specs.Handled.{rises_from}
-use Rattle.partition_queue.specs.Queue.{PlainQueue, TokensRise, event_at, token_at}
 use Rattle.consumer_grain.proofs.NumberLemmas.{rises_from-at_least}
 use Rattle.pulling_agent.specs.Progress.{handled_at}
 use Rattle.pulling_agent.specs.Handled.{first_of, IsBound}

@@ -1,12 +1,7 @@
 -- The numbers below a length, in their order.
-use Rattle.std.proofs.Common.{◌≡◌, ◌∙◌, ℕ, suc, ◌+◌, ◌<◌, ◌≤◌, Bool, true, false, List, [], ◌∷◌, ◌++◌, length, take, drop, filter, nat_lt, refl, sym, ap, arith}
+use Rattle.ranked_index.proofs.Prelude.{◌≡◌, ◌∙◌, ℕ, suc, ◌+◌, ◌<◌, ◌≤◌, Bool, true, false, List, [], ◌∷◌, ◌++◌, length, take, drop, filter, nat_lt, refl, sym, ap, arith, cond-true, cond-false, le-ltb, lt-ltb, ltb-false, take_all, take-append-drop, take-take, length-remove, insert, remove, slice_index, if◌then◌else◌}
 use Rattle.std.proofs.Math.Seq.{drop-cons}
-use Rattle.std.proofs.lemmas.Bool.{cond-true, cond-false, le-ltb, lt-ltb, ltb-false}
-use Rattle.std.proofs.lemmas.List.{take_all, take-append-drop, take-take}
-use Rattle.std.proofs.lemmas.List.Edits.{length-remove}
 use Rattle.std.proofs.lemmas.List.Elements.{filter-append}
-use Rattle.std.specs.List.{insert, remove}
-use Rattle.std.specs.Prelude.{slice_index, if◌then◌else◌}
 use Rattle.ranked_index.specs.Leaves.{numbers_below, truncated, PlainResumes}
 use Rattle.ranked_index.specs.Ranking.{IsRanking}
 use Rattle.ranked_index.proofs.RankLemmas.{removed_within}

@@ -1,5 +1,5 @@
 -- Numbers doubled so many times.
-use Rattle.std.proofs.Common.{◌≡◌, ℕ, zero, suc, ◌+◌, ◌<◌, ◌≤◌, refl, sym, ap, ◌∙◌, arith}
+use Rattle.ranked_index.proofs.Prelude.{◌≡◌, ℕ, zero, suc, ◌+◌, ◌<◌, ◌≤◌, refl, sym, ap, ◌∙◌, arith}
 use Rattle.ranked_index.specs.Tree.{doubled, IsPowerOfTwo}
 
 pub doubled-twice : (t x : ℕ) → doubled t (x + x) ≡ doubled t x + doubled t x

@@ -1,16 +1,9 @@
 -- Entries and their keys where one is added, changed or taken back.
-use Rattle.std.proofs.Common.{◌≡◌, ◌≢◌, ◌∙◌, ap, ap₂, sym, subst, ℕ, ◌+◌, ◌<◌, ◌≤◌, inl, inr, Bool, true, false, not, List, [], ◌∷◌, ◌++◌, length, get_or, take, set, Option, Some, nat_lt, arith, length-set, get_or-set_same, get_or-set_other}
-use Rattle.std.proofs.lemmas.Bool.{both_ways, cases_lt, cases_eq, cases_order, false_from_ne_true, le-ltb, lt-ltb, not-false, not-true, not_from_false}
-use Rattle.std.proofs.lemmas.List.{get_or_append_left, get_or_default, get_or_push, get_or-take, length_push}
-use Rattle.std.proofs.lemmas.List.Edits.{length-insert, length-remove, get_or-remove_below, get_or-remove_above}
-use Rattle.std.proofs.lemmas.Option.{slice_get-get_or}
-use Rattle.std.specs.List.{insert, remove}
+use Rattle.ranked_index.proofs.Prelude.{◌≡◌, ◌≢◌, ◌∙◌, ap, ap₂, sym, subst, ℕ, ◌+◌, ◌<◌, ◌≤◌, inl, inr, Bool, true, false, not, List, [], ◌∷◌, ◌++◌, length, get_or, take, set, Option, Some, nat_lt, arith, length-set, get_or-set_same, get_or-set_other, both_ways, cases_lt, cases_eq, cases_order, false_from_ne_true, le-ltb, lt-ltb, not-false, not-true, not_from_false, get_or_append_left, get_or_default, get_or_push, get_or-take, length_push, length-insert, length-remove, get_or-remove_below, get_or-remove_above, slice_get-get_or, insert, remove, slice_index, IsOrder}
 use Rattle.std.specs.List.Sorted.{IsPartitionedBy, IsPartitionPoint}
-use Rattle.std.specs.Prelude.{slice_index}
 use Rattle.ranked_index.specs.Ranked.{entry_at, is_up_to, some_up_to, AreByRank, AreRanked, IsFirstPast}
 use Rattle.ranked_index.specs.Listed.{AreRising}
 use Rattle.ranked_index.specs.Ranking.{IsRanking}
-use Rattle.stream_ident.proofs.Order.{IsOrder}
 use Rattle.ranked_index.proofs.RankLemmas.{along, distinct_numbers, insert-before, insert-here, insert-past, inserted_pairs, placed, ranking-insert, removed_within, Placed, Before, Here, Past}
 
 -- ---- an entry more

@@ -1,5 +1,5 @@
 -- Places that are filled with the same, and the leaves of a tree among them.
-use Rattle.std.proofs.Common.{◌≡◌, ◌∙◌, ℕ, zero, suc, ◌+◌, ◌-◌, ◌/◌, ◌<◌, ◌≤◌, ◌⊎◌, inl, inr, List, length, drop, take, set, refl, sym, ap, ap₂, arith, length-set, get_or-set_other}
+use Rattle.ranked_index.proofs.Prelude.{◌≡◌, ◌∙◌, ℕ, zero, suc, ◌+◌, ◌-◌, ◌/◌, ◌<◌, ◌≤◌, ◌⊎◌, inl, inr, List, length, drop, take, set, refl, sym, ap, ap₂, arith, length-set, get_or-set_other}
 use Rattle.ranked_index.specs.Keys.{filled}
 use Rattle.ranked_index.specs.declared.tree.Node.{Node}
 use Rattle.ranked_index.specs.Tree.{lesser_node, zero_node, node_at, IsLesser, IsTree, IsTreeBut}

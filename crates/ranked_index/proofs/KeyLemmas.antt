@@ -1,9 +1,5 @@
 -- The least key and the first that is at most a bound, from the nodes.
-use Rattle.std.proofs.Common.{◌≡◌, ℕ, ◌+◌, ◌-◌, ◌<◌, ◌≤◌, inl, inr, Bool, true, false, cond, List, length, take, drop, map, min, get_or, Option, Some, None, refl, sym, ap, ◌∙◌, arith}
-use Rattle.std.proofs.lemmas.Bool.{cases_lt, lt-ltb, le-ltb, le-leb, lt-leb}
-use Rattle.std.proofs.lemmas.List.{get_or-drop, get_or-map, length-drop, length-map}
-use Rattle.std.proofs.lemmas.Option.{same_Some}
-use Rattle.stream_ident.proofs.FirstLemmas.{first_at-nowhere, first_at-there}
+use Rattle.ranked_index.proofs.Prelude.{◌≡◌, ℕ, ◌+◌, ◌-◌, ◌<◌, ◌≤◌, inl, inr, Bool, true, false, cond, List, length, take, drop, map, min, get_or, Option, Some, None, refl, sym, ap, ◌∙◌, arith, cases_lt, lt-ltb, le-ltb, le-leb, lt-leb, get_or-drop, get_or-map, length-drop, length-map, same_Some, first_at-nowhere, first_at-there}
 use Rattle.ranked_index.specs.Keys.{least_key, is_at_most, first_at_most}
 use Rattle.ranked_index.specs.declared.tree.Key.{Key}
 use Rattle.ranked_index.specs.declared.tree.Key.TheVariants.{Resume, Due}

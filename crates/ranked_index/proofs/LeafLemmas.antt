@@ -1,8 +1,5 @@
 -- Leaves that are written.
-use Rattle.std.proofs.Common.{◌≡◌, ℕ, ◌+◌, ◌<◌, ◌≤◌, List, length, take, drop, set, sym, ap, ◌∙◌, arith}
-use Rattle.std.proofs.lemmas.List.{drop-set-add, get_or-drop, get_or-take, ext_get_or, length-take-le, length-drop}
-use Rattle.std.proofs.lemmas.List.Edits.{length-insert}
-use Rattle.std.specs.List.{insert}
+use Rattle.ranked_index.proofs.Prelude.{◌≡◌, ℕ, ◌+◌, ◌<◌, ◌≤◌, List, length, take, drop, set, sym, ap, ◌∙◌, arith, drop-set-add, get_or-drop, get_or-take, ext_get_or, length-take-le, length-drop, length-insert, insert}
 use Rattle.std.proofs.Math.Seq.{take-set-lt}
 use Rattle.std.specs.Prelude.{get_or}
 use Rattle.ranked_index.specs.declared.tree.Node.{Node}

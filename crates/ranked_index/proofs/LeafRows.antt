@@ -1,13 +1,6 @@
 -- Leaves and their keys where one is added, changed or taken back.
-use Rattle.std.proofs.Common.{◌≡◌, ◌∙◌, ℕ, zero, suc, ◌+◌, ◌<◌, ◌≤◌, Bool, true, false, List, [], ◌∷◌, ◌++◌, length, get_or, take, set, map, Option, Some, None, refl, sym, ap, subst, arith, length-set}
-use Rattle.std.proofs.lemmas.Bool.{le-leb, lt-leb}
-use Rattle.std.proofs.lemmas.List.{get_or_default, get_or-map, length-map, length_push, length-take-le, same_lists}
-use Rattle.std.proofs.lemmas.List.Edits.{length-insert, length-remove}
+use Rattle.ranked_index.proofs.Prelude.{◌≡◌, ◌∙◌, ℕ, zero, suc, ◌+◌, ◌<◌, ◌≤◌, Bool, true, false, List, [], ◌∷◌, ◌++◌, length, get_or, take, set, map, Option, Some, None, refl, sym, ap, subst, arith, length-set, le-leb, lt-leb, get_or_default, get_or-map, length-map, length_push, length-take-le, same_lists, length-insert, length-remove, insert, remove, range_with_len, option_map, slice_index, or_else}
 use Rattle.std.proofs.lemmas.List.FromFn.{get_or-map-range_with_len, length-range_with_len}
-use Rattle.std.specs.List.{insert, remove, range_with_len}
-use Rattle.std.specs.Option.{option_map}
-use Rattle.std.specs.Prelude.{slice_index}
-use Rattle.stream_ident.specs.Words.{or_else}
 use Rattle.ranked_index.specs.Keys.{filled, first_at_most, is_at_most, least_place}
 use Rattle.ranked_index.specs.Ranked.{AreKeys}
 use Rattle.ranked_index.proofs.EntryLemmas.{by_rank-insert, by_rank-remove, by_rank-set}

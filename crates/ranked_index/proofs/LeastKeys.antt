@@ -1,7 +1,5 @@
 -- The least of keys.
-use Rattle.std.proofs.Common.{◌≡◌, ℕ, zero, suc, ◌<◌, ◌≤◌, inl, inr, List, [], ◌∷◌, length, get_or, min, Option, Some, None, refl, ap, arith}
-use Rattle.std.proofs.lemmas.Bool.{cases_lt}
-use Rattle.std.proofs.lemmas.Option.{same_Some}
+use Rattle.ranked_index.proofs.Prelude.{◌≡◌, ℕ, zero, suc, ◌<◌, ◌≤◌, inl, inr, List, [], ◌∷◌, length, get_or, min, Option, Some, None, refl, ap, arith, cases_lt, same_Some}
 use Rattle.ranked_index.specs.Keys.{lesser_key, least_key}
 
 -- a key at a place

@@ -1,18 +1,11 @@
 -- The least name of the entries that pass, by rank.
-use Rattle.std.proofs.Common.{◌≡◌, ◌∙◌, ap, sym, refl, subst, ℕ, zero, suc, ◌+◌, ◌-◌, ◌<◌, ◌≤◌, ◌⊎◌, inl, inr, Bool, true, false, ◌&&◌, List, [], ◌∷◌, length, get_or, drop, map, filter, Option, Some, None, arith, length-drop}
+use Rattle.ranked_index.proofs.Prelude.{◌≡◌, ◌∙◌, ap, sym, refl, subst, ℕ, zero, suc, ◌+◌, ◌-◌, ◌<◌, ◌≤◌, ◌⊎◌, inl, inr, Bool, true, false, ◌&&◌, List, [], ◌∷◌, length, get_or, drop, map, filter, Option, Some, None, arith, and_from, and_left, and_right, both_ways, cases_lt, cases_order, cond_both, cond-true, cond-false, get_or-drop, get_or-map, length-map, same_Some, option_map, slice_index, if◌then◌else◌, first_at-None, first_at-Some, IsOrder, above, least, lesser, next_after, or_else, is_above}
+use Rattle.std.proofs.Common.{length-drop}
 use Rattle.std.proofs.Math.Bool.{and-true}
-use Rattle.std.proofs.lemmas.Bool.{and_from, and_left, and_right, both_ways, cases_lt, cases_order, cond_both, cond-true, cond-false}
-use Rattle.std.proofs.lemmas.List.{get_or-drop, get_or-map, length-map}
 use Rattle.std.proofs.lemmas.List.Elements.{filter_agree}
-use Rattle.std.proofs.lemmas.Option.{same_Some}
-use Rattle.std.specs.Option.{option_map}
-use Rattle.std.specs.Prelude.{slice_index, if◌then◌else◌}
 use Rattle.ranked_index.specs.Keys.{first_at_most, is_at_most, least_key}
-use Rattle.stream_ident.specs.Words.{above, least, lesser, next_after, or_else, is_above}
-use Rattle.stream_ident.proofs.FirstLemmas.{first_at-None, first_at-Some}
 use Rattle.ranked_index.specs.Ranked.{entry_at, AreKeys, AreRanked, IsFirstPast}
 use Rattle.ranked_index.specs.Ranking.{IsRanking}
-use Rattle.stream_ident.proofs.Order.{IsOrder}
 use Rattle.ranked_index.proofs.LeastKeys.{least_key-same, IsAt}
 
 -- the first key from a rank on that is at most the bound

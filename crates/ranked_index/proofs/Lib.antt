@@ -12,3 +12,4 @@ pub mod RankLemmas
 pub mod RemoveLemmas
 pub mod SettleLemmas
 pub mod TreeLemmas
+pub mod Prelude

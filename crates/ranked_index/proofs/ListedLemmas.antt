@@ -1,12 +1,5 @@
 -- The numbers of the entries that pass a test, where one is added, changed, put in or taken out.
-use Rattle.std.proofs.Common.{◌≡◌, ◌≢◌, ◌∙◌, ap, ap₂, sym, refl, subst, ℕ, ◌+◌, ◌-◌, ◌<◌, ◌≤◌, inl, inr, Bool, true, false, ◌&&◌, List, [], ◌∷◌, ◌++◌, length, get_or, map, filter, set, Option, Some, None, arith, length-set, get_or-set_other}
-use Rattle.std.proofs.lemmas.Bool.{and_from, and_parts, both_ways, cases_eq, cases_lt, cases_order, false_from_ne_true}
-use Rattle.std.proofs.lemmas.List.{get_or_append_left, get_or_default, length_push}
-use Rattle.std.proofs.lemmas.List.Edits.{length-insert, length-remove, get_or-remove_below, get_or-remove_above}
-use Rattle.std.specs.List.{insert, remove}
-use Rattle.std.specs.Prelude.{slice_index}
-use Rattle.stream_ident.specs.Words.{above, is_above, least, next_after, or_else}
-use Rattle.stream_ident.proofs.Order.{IsOrder}
+use Rattle.ranked_index.proofs.Prelude.{◌≡◌, ◌≢◌, ◌∙◌, ap, ap₂, sym, refl, subst, ℕ, ◌+◌, ◌-◌, ◌<◌, ◌≤◌, inl, inr, Bool, true, false, ◌&&◌, List, [], ◌∷◌, ◌++◌, length, get_or, map, filter, set, Option, Some, None, arith, length-set, get_or-set_other, and_from, and_parts, both_ways, cases_eq, cases_lt, cases_order, false_from_ne_true, get_or_append_left, get_or_default, length_push, length-insert, length-remove, get_or-remove_below, get_or-remove_above, insert, remove, slice_index, IsOrder, above, is_above, least, next_after, or_else}
 use Rattle.ranked_index.specs.Ranked.{entry_at, IsFirstPast}
 use Rattle.ranked_index.specs.Listed.{AreListed, AreListedBut, AreRising, IsListed}
 use Rattle.ranked_index.proofs.EntryLemmas.{name_kept}

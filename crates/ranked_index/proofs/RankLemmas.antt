@@ -1,15 +1,8 @@
 -- Numbers and ranks where a number is put in or taken out.
-use Rattle.std.proofs.Common.{◌≡◌, ◌≢◌, ◌∙◌, ap, sym, refl, subst, ℕ, zero, suc, ◌+◌, ◌-◌, ◌<◌, ◌≤◌, inl, inr, Bool, true, ◌||◌, List, [], ◌∷◌, ◌++◌, length, get_or, take, Option, Some, None, arith}
+use Rattle.ranked_index.proofs.Prelude.{◌≡◌, ◌≢◌, ◌∙◌, ap, sym, refl, subst, ℕ, zero, suc, ◌+◌, ◌-◌, ◌<◌, ◌≤◌, inl, inr, Bool, true, ◌||◌, List, [], ◌∷◌, ◌++◌, length, get_or, take, Option, Some, None, arith, both_ways, cases_lt, cases_eq, cases_order, eq-eqb, eqb-true, ne_eqb, get_or_append_left, get_or_default, get_or-take, length-insert, get_or-insert_at, get_or-insert_below, get_or-insert_above, length-remove, get_or-remove_below, get_or-remove_above, insert, list_any, remove, slice_index, unwrap_or, ◌==◌, first_at-None, first_at-Some, first_at}
 use Rattle.std.proofs.Math.Dec.{eqb}
-use Rattle.std.proofs.lemmas.Bool.{both_ways, cases_lt, cases_eq, cases_order, eq-eqb, eqb-true, ne_eqb}
-use Rattle.std.proofs.lemmas.List.{get_or_append_left, get_or_default, get_or-take}
-use Rattle.std.proofs.lemmas.List.Edits.{length-insert, get_or-insert_at, get_or-insert_below, get_or-insert_above, length-remove, get_or-remove_below, get_or-remove_above}
 use Rattle.std.proofs.lemmas.Map.Keys.{IsDistinct-from_apart}
 use Rattle.std.proofs.lemmas.Map.Steps.{length-le_from_distinct_below}
-use Rattle.std.specs.List.{insert, list_any, remove}
-use Rattle.std.specs.Prelude.{slice_index, unwrap_or, ◌==◌}
-use Rattle.stream_ident.proofs.FirstLemmas.{first_at-None, first_at-Some}
-use Rattle.stream_ident.specs.Words.{first_at}
 use Rattle.ranked_index.specs.Listed.{IsListed}
 use Rattle.ranked_index.specs.Ranking.{AreRanks, IsInverse, IsRanking, IsReranked}
 use Rattle.ranked_index.specs.Ranks.{rank_in}

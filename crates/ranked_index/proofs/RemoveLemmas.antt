@@ -1,9 +1,5 @@
 -- Leaves of which one is taken out.
-use Rattle.std.proofs.Common.{◌≡◌, ℕ, ◌+◌, ◌-◌, ◌<◌, ◌≤◌, inl, inr, List, length, take, drop, sym, ap, ◌∙◌, arith}
-use Rattle.std.proofs.lemmas.Bool.{cases_lt}
-use Rattle.std.proofs.lemmas.List.{ext_get_or}
-use Rattle.std.proofs.lemmas.List.Edits.{length-remove, get_or-remove_below, get_or-remove_above}
-use Rattle.std.specs.List.{remove}
+use Rattle.ranked_index.proofs.Prelude.{◌≡◌, ℕ, ◌+◌, ◌-◌, ◌<◌, ◌≤◌, inl, inr, List, length, take, drop, sym, ap, ◌∙◌, arith, cases_lt, ext_get_or, length-remove, get_or-remove_below, get_or-remove_above, remove}
 use Rattle.std.specs.Prelude.{get_or}
 use Rattle.ranked_index.specs.declared.tree.Node.{Node}
 use Rattle.ranked_index.specs.Tree.{zero_node, node_at, IsShiftedBack}

@@ -1,6 +1,5 @@
 -- Nodes and the leaves below them, by one of their keys.
-use Rattle.std.proofs.Common.{◌≡◌, ℕ, zero, suc, ◌+◌, ◌*◌, ◌/◌, ◌%◌, ◌<◌, ◌≤◌, inl, inr, List, length, min, refl, ap, ◌∙◌, subst, arith}
-use Rattle.std.proofs.lemmas.Bool.{cases_lt}
+use Rattle.ranked_index.proofs.Prelude.{◌≡◌, ℕ, zero, suc, ◌+◌, ◌*◌, ◌/◌, ◌%◌, ◌<◌, ◌≤◌, inl, inr, List, length, min, refl, ap, ◌∙◌, subst, arith, cases_lt}
 use Rattle.ranked_index.specs.declared.tree.Key.{Key}
 use Rattle.ranked_index.specs.declared.tree.Key.TheVariants.{Resume, Due}
 use Rattle.ranked_index.specs.declared.tree.Node.{Node}

@@ -1,16 +1,10 @@
 -- What is legal at a turnstile is, without the numbers of the passes, a legal history of the directory.
-use Rattle.std.proofs.Common.{List, [], ◌∷◌, Result, refl, sym, subst}
+use Rattle.shared_partition.proofs.Prelude.{List, [], ◌∷◌, Result, refl, sym, subst, CallsBy, IsOf, IsLegal, replay, Origin, PassView, Entry, Refusal, Start}
 use Rattle.activation_directory.specs.declared.op.DirectoryOp.{DirectoryOp}
 use Rattle.activation_directory.specs.declared.reply.DirectoryReply.{DirectoryReply}
 use Rattle.activation_directory.specs.Laws.{OnePermitAtATime}
 use Rattle.activation_directory.specs.Plain.{PlainDirectory, empty}
 use Rattle.activation_directory.specs.Step.{Leads}
-use Rattle.turnstile.specs.declared.history.Entry.{Entry}
-use Rattle.turnstile.specs.declared.view.Start.{Start}
-use Rattle.turnstile.specs.declared.turnstile.Refusal.{Refusal}
-use Rattle.turnstile.specs.Calls.{CallsBy, IsOf}
-use Rattle.turnstile.specs.History.{IsLegal, replay}
-use Rattle.turnstile.specs.Passes.{Origin, PassView}
 use Rattle.shared_partition.specs.Directories.{BeganEmpty, IsOfEmpty, LeavesLegal, TellsOnePermit, after, replied, told_of}
 use Rattle.shared_partition.proofs.Legal.{called-legal}
 

@@ -1,11 +1,5 @@
 -- What a pass has seen is legal, whether its call was refused or not.
-use Rattle.std.proofs.Common.{◌≡◌, List, Some, Result, Ok, Err, MatchResult, subst}
-use Rattle.turnstile.specs.Calls.{Called, CallsBy, Found}
-use Rattle.turnstile.specs.History.{IsLegal}
-use Rattle.turnstile.specs.Passes.{Origin, PassView}
-use Rattle.turnstile.specs.declared.history.Entry.{Entry}
-use Rattle.turnstile.specs.declared.turnstile.Refusal.{Refusal}
-use Rattle.turnstile.specs.declared.view.Start.{Start}
+use Rattle.shared_partition.proofs.Prelude.{◌≡◌, List, Some, Result, Ok, Err, MatchResult, subst, Called, CallsBy, Found, IsLegal, Origin, PassView, Entry, Refusal, Start}
 
 module _ {S O R : Type 0} (reply : S → O → R) (after : S → O → S) where
   pub seen-legal : (x : Start S) (p : PassView O R S) (op : O) (result : Result R Refusal) (seen : List (Entry O R))

@@ -1,3 +1,4 @@
 pub mod Directories
 pub mod Legal
 pub mod Partitions
+pub mod Prelude

@@ -1,16 +1,10 @@
 -- What is legal at a turnstile is, without the numbers of the passes, a legal history of the partition.
-use Rattle.std.proofs.Common.{◌≡◌, List, [], ◌∷◌, Result, refl, sym, subst}
+use Rattle.shared_partition.proofs.Prelude.{◌≡◌, List, [], ◌∷◌, Result, refl, sym, subst, CallsBy, IsOf, LooksBy, IsLegal, replay, Origin, PassView, Entry, Refusal, Start}
 use Rattle.stream_laws.specs.Laws.{OneHistory}
 use Rattle.stream_model.specs.declared.op.Op.{Op}
 use Rattle.stream_model.specs.declared.plain.PlainPartition.{PlainPartition}
 use Rattle.stream_model.specs.Replies.{Reply}
 use Rattle.stream_model.specs.Step.{Leads}
-use Rattle.turnstile.specs.declared.history.Entry.{Entry}
-use Rattle.turnstile.specs.declared.view.Start.{Start}
-use Rattle.turnstile.specs.declared.turnstile.Refusal.{Refusal}
-use Rattle.turnstile.specs.Calls.{CallsBy, IsOf, LooksBy}
-use Rattle.turnstile.specs.History.{IsLegal, replay}
-use Rattle.turnstile.specs.Passes.{Origin, PassView}
 use Rattle.shared_partition.specs.Partitions.{BeganEmpty, IsOfEmpty, LeavesLegal, TellsOneHistory, after, replied, told_of}
 use Rattle.shared_partition.proofs.Legal.{called-legal}
 

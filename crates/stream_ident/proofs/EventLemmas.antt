@@ -1,5 +1,5 @@
 -- The events of a batch.
-use Rattle.std.proofs.Common.{◌≡◌, ℕ, suc, List, [], ◌∷◌, ◌∙◌, ◌+◌, ◌<◌, length, refl, ap, zero, get_or, arith}
+use Rattle.stream_ident.proofs.Prelude.{◌≡◌, ℕ, suc, List, [], ◌∷◌, ◌∙◌, ◌+◌, ◌<◌, length, refl, ap, zero, get_or, arith}
 use Rattle.stream_ident.specs.declared.ident.StreamId.{StreamId}
 use Rattle.stream_ident.specs.Event.{events_of, no_event}
 

@@ -1,9 +1,7 @@
 -- The first element that passes, by its place.
-use Rattle.std.proofs.Common.{◌≡◌, ◌∙◌, ◌+◌, ◌<◌, ◌∷◌, ap, subst, refl, ℕ, zero, suc, Bool, true, false, List, [], length, get_or, Option, Some, None, arith}
-use Rattle.std.proofs.lemmas.Bool.Decides.{nat_tests}
-use Rattle.std.specs.List.{position_or_len}
+use Rattle.stream_ident.proofs.Prelude.{◌≡◌, ◌∙◌, ◌+◌, ◌<◌, ◌∷◌, ap, subst, refl, ℕ, zero, suc, Bool, true, false, List, [], length, get_or, arith, nat_tests, position_or_len, if◌then◌else◌, nat_lt, position}
+use Rattle.std.proofs.Common.{Option, Some, None}
 use Rattle.std.specs.Map.{keys_of}
-use Rattle.std.specs.Prelude.{if◌then◌else◌, nat_lt, position}
 use Rattle.stream_ident.specs.Words.{first_at, place_of}
 use Rattle.stream_ident.proofs.WordLemmas.{cond_none}
 

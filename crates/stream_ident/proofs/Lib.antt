@@ -12,3 +12,4 @@ pub mod SameValues
 pub mod SplitLemmas
 pub mod TokenLemmas
 pub mod WordLemmas
+pub mod Prelude

@@ -1,9 +1,6 @@
 -- Texts that have no wrong place, and rows that hold a text.
-use Rattle.std.specs.Prelude.{◌≡◌, ◌≢◌, ℕ, ◌-◌, ◌<◌, ◌≤◌, Bool, true, not, List, [], ◌∷◌, ◌++◌, length, Some, None, position, take, replicate, nat_lt, cond, refl}
-use Rattle.std.specs.List.{list_all, position_or_len}
-use Rattle.std.proofs.Common.{ap, ◌∙◌, arith}
-use Rattle.std.proofs.lemmas.Bool.{not-false, le-ltb, ltb-false, ne_eqb, eqb-false, and_parts}
-use Rattle.std.proofs.lemmas.List.{take_all, take_at, length-append, length-replicate}
+use Rattle.stream_ident.proofs.Prelude.{ap, ◌∙◌, arith, not-false, le-ltb, ltb-false, ne_eqb, eqb-false, and_parts, take_all, take_at, length-append, length-replicate, list_all, position_or_len, ◌≢◌, ◌-◌, not, Some, None, position, replicate, nat_lt, cond}
+use Rattle.std.specs.Prelude.{◌≡◌, ℕ, ◌<◌, ◌≤◌, Bool, true, List, [], ◌∷◌, ◌++◌, length, take, refl}
 use Rattle.std.proofs.lemmas.List.Sums.{list_all-from_AllPass, fails_before_first}
 use Rattle.stream_ident.specs.Text.{wrong_place, IsPadded}
 use Rattle.stream_ident.specs.Alphabet.{is_name_byte, IsName, wrong_in_name, IsPayload, wrong_in_payload, is_printable}

@@ -1,6 +1,5 @@
 -- The orders of the names of subscriptions and of grains are total.
-use Rattle.std.proofs.Common.{◌≡◌, ◌∙◌, ap, sym, refl, Bool}
-use Rattle.std.specs.Ordering.{is_lt, is_some_and}
+use Rattle.stream_ident.proofs.Prelude.{◌≡◌, ◌∙◌, ap, sym, refl, Bool, is_lt, is_some_and}
 use Rattle.stream_ident.specs.declared.ident.SubName.{SubName}
 use Rattle.stream_ident.specs.declared.ident.SubName.TheVariants.{Explicit, Implicit}
 use Rattle.stream_ident.specs.Name.{same_grain, grain_lt}

@@ -1,12 +1,9 @@
 -- Which names are in a list of names with their values, and which come to be in it.
-use Rattle.std.proofs.Common.{◌≡◌, ◌∙◌, ◌+◌, ◌<◌, ◌≤◌, ◌||◌, ◌∷◌, ◌++◌, ℕ, Bool, true, List, [], length, take, get_or, inl, inr, is_some, fold, refl, sym, ap, arith}
+use Rattle.stream_ident.proofs.Prelude.{◌≡◌, ◌∙◌, ◌+◌, ◌<◌, ◌≤◌, ◌||◌, ◌∷◌, ◌++◌, ℕ, Bool, true, List, [], length, take, get_or, inl, inr, is_some, fold, refl, sym, ap, arith, cases_Bool, cond_both, append-nil, length-take, take_more, flat_map}
 use Rattle.std.proofs.Math.Bool.{or-false, or_assoc}
 use Rattle.std.proofs.Math.Seq.{take-length, take-append_seam}
-use Rattle.std.proofs.lemmas.Bool.{cases_Bool, cond_both}
-use Rattle.std.proofs.lemmas.List.{append-nil, length-take, take_more}
 use Rattle.std.proofs.lemmas.List.Concat.{flat_map-append}
 use Rattle.std.proofs.lemmas.List.Sums.{fold-append}
-use Rattle.std.specs.List.{flat_map}
 use Rattle.stream_ident.specs.declared.ident.SubName.{SubName}
 use Rattle.stream_ident.specs.Implying.{added}
 use Rattle.stream_ident.specs.SubName.{same_sub}

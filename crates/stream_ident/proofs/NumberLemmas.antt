@@ -1,13 +1,8 @@
 -- A number below 2 ^ 64 and its decimal text give one another.
-use Rattle.std.specs.Prelude.{◌≡◌, ℕ, ◌^◌, ◌<◌, ◌≤◌, true, not, ◌&&◌, List, length, slice_index, ◌==◌, nat_lt, Some, refl}
-use Rattle.std.specs.Str.{all_ascii_digits}
+use Rattle.stream_ident.proofs.Prelude.{sym, ap, ◌∙◌, arith, rules, inl, inr, and_parts, and_from, cases_lt, lt-ltb, ltb-true, nat_tests, digits_decimal, digits_value-decimal, decimal_nonempty, first_decimal, length-decimal-le, decimal-digits_value, cond_some, ◌^◌, not, slice_index, ◌==◌, nat_lt, Some, all_ascii_digits}
+use Rattle.std.specs.Prelude.{◌≡◌, ℕ, ◌<◌, ◌≤◌, true, ◌&&◌, List, length, refl}
 use Rattle.std.specs.Fmt.{decimal}
-use Rattle.std.proofs.Common.{sym, ap, ◌∙◌, arith, rules, inl, inr}
-use Rattle.std.proofs.lemmas.Bool.{and_parts, and_from, cases_lt, lt-ltb, ltb-true}
-use Rattle.std.proofs.lemmas.Bool.Decides.{nat_tests}
-use Rattle.std.proofs.lemmas.Option.{cond_some}
 use Rattle.std.proofs.lemmas.Str.Parse.{IsNumeralModel, numerals_by_fold}
-use Rattle.std.proofs.lemmas.Fmt.{digits_decimal, digits_value-decimal, decimal_nonempty, first_decimal, length-decimal-le, decimal-digits_value}
 use Rattle.stream_ident.specs.Number.{value_after, is_numeral, number_of}
 
 pub numerals : IsNumeralModel (λ ds. all_ascii_digits ds ≡ true) (value_after 0)

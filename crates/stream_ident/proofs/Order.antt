@@ -1,7 +1,6 @@
 -- An order of names by two tests: what comes before what, and what is the same.
-use Rattle.std.proofs.Common.{◌≡◌, ◌∙◌, ap, sym, Bool, true, false, Ordering, Less, arith}
+use Rattle.stream_ident.proofs.Prelude.{◌≡◌, ◌∙◌, ap, sym, Bool, true, false, Ordering, Less, arith, is_eq, is_lt, ordering_reverse}
 use Rattle.std.specs.Cmp.{IsTotalOrder}
-use Rattle.std.specs.Ordering.{is_eq, is_lt, ordering_reverse}
 
 pub record IsOrder {N : Type 0} (lt same : N → N → Bool) : Type 0 where
   pub one_way : (a b : N) → lt a b ≡ true → lt b a ≡ false

@@ -1,9 +1,7 @@
 -- What comes first, by names and then by what follows them.
-use Rattle.std.specs.Prelude.{◌≡◌, ℕ, ◌&&◌, ◌||◌, List, Some, refl, Option, nat_lt}
-use Rattle.std.proofs.Common.{Ordering, Less, Equal, Greater, sym, ap, ◌∙◌, arith}
-use Rattle.std.specs.Ordering.{is_lt, is_eq, nat_cmp, is_some_and, partial_ordering_then}
+use Rattle.stream_ident.proofs.Prelude.{Ordering, Less, Equal, Greater, sym, ap, ◌∙◌, arith, nat_tests, is_lt, is_eq, nat_cmp, is_some_and, partial_ordering_then, Some, Option, nat_lt}
+use Rattle.std.specs.Prelude.{◌≡◌, ℕ, ◌&&◌, ◌||◌, List, refl}
 use Rattle.std.specs.Cmp.Lexicographic.{slice_cmp, texts_ties}
-use Rattle.std.proofs.lemmas.Bool.Decides.{nat_tests}
 use Rattle.stream_ident.specs.Name.{name_lt, same_name, stream_lt, grain_lt}
 use Rattle.stream_ident.specs.SubName.{sub_lt}
 use Rattle.stream_ident.specs.declared.ident.StreamId.{StreamId}

@@ -1,7 +1,6 @@
 -- The front of deliveries that are all of one subscription and rise.
-use Rattle.std.proofs.Common.{◌≡◌, ◌+◌, ◌-◌, ◌<◌, ◌≤◌, ◌&&◌, ◌∷◌, ◌++◌, ◌∙◌, ℕ, zero, suc, Bool, true, false, List, [], length, get_or, drop, take, refl, sym, ap, nat_le, arith, append-nil, append_assoc}
-use Rattle.std.proofs.lemmas.Bool.{and_from, le-leb}
-use Rattle.std.proofs.lemmas.List.{length_push, drop_all, take_rest}
+use Rattle.stream_ident.proofs.Prelude.{◌≡◌, ◌+◌, ◌<◌, ◌≤◌, ◌&&◌, ◌∷◌, ◌++◌, ◌∙◌, ℕ, zero, suc, Bool, true, false, List, [], length, get_or, drop, take, refl, sym, ap, nat_le, arith, append_assoc, and_from, le-leb, length_push, drop_all, take_rest}
+use Rattle.std.proofs.Common.{◌-◌, append-nil}
 use Rattle.stream_ident.specs.Words.{rising_front}
 use Rattle.stream_ident.proofs.WordLemmas.{drop-read}
 

@@ -1,12 +1,7 @@
 -- Splitting at the first separator.
-use Rattle.std.specs.Prelude.{◌≡◌, ℕ, ◌+◌, ◌-◌, Bool, true, false, not, List, [], ◌∷◌, ◌++◌, length, Option, Some, None, position, take, drop, nat_lt, ◌==◌, cond, refl}
+use Rattle.stream_ident.proofs.Prelude.{sym, ap, ◌∙◌, arith, suc, subst, add-one, and_parts, not-true, eqb-true, eq-eqb, lt-ltb, nat_tests, take_rest, same_Some, position_or_len, list_all, ◌-◌, not, Option, Some, None, position, nat_lt, ◌==◌, cond}
+use Rattle.std.specs.Prelude.{◌≡◌, ℕ, ◌+◌, Bool, true, false, List, [], ◌∷◌, ◌++◌, length, take, drop, refl}
 use Rattle.std.specs.Option.{option_map}
-use Rattle.std.specs.List.{position_or_len, list_all}
-use Rattle.std.proofs.Common.{sym, ap, ◌∙◌, arith, suc, subst, add-one}
-use Rattle.std.proofs.lemmas.List.{take_rest}
-use Rattle.std.proofs.lemmas.Bool.{and_parts, not-true, eqb-true, eq-eqb, lt-ltb}
-use Rattle.std.proofs.lemmas.Bool.Decides.{nat_tests}
-use Rattle.std.proofs.lemmas.Option.{same_Some}
 use Rattle.stream_ident.specs.Text.{split_once}
 use Rattle.stream_ident.proofs.WordLemmas.{one-add}
 

@@ -1,14 +1,8 @@
 -- A token and its text give one another.
-use Rattle.std.specs.Prelude.{◌≡◌, ◌≢◌, ℕ, ◌^◌, ◌<◌, true, not, List, [], ◌∷◌, ◌++◌, Option, Some, None, Result, Ok, Err, ◌==◌, refl, OnErr, IfOk}
+use Rattle.stream_ident.proofs.Prelude.{sym, ap, ◌∙◌, arith, and_parts, and_from, lt-ltb, ltb-true, nat_tests, digits_decimal, cond_some, list_all, ◌≢◌, ◌^◌, not, Option, Some, None, Result, Ok, Err, ◌==◌, OnErr, IfOk, all_ascii_digits}
+use Rattle.std.specs.Prelude.{◌≡◌, ℕ, ◌<◌, true, List, [], ◌∷◌, ◌++◌, refl}
 use Rattle.std.specs.Fmt.{decimal}
-use Rattle.std.proofs.Common.{sym, ap, ◌∙◌, arith}
-use Rattle.std.specs.Str.{all_ascii_digits}
 use Rattle.std.specs.Char.{is_ascii_digit}
-use Rattle.std.specs.List.{list_all}
-use Rattle.std.proofs.lemmas.Bool.{and_parts, and_from, lt-ltb, ltb-true}
-use Rattle.std.proofs.lemmas.Bool.Decides.{nat_tests}
-use Rattle.std.proofs.lemmas.Option.{cond_some}
-use Rattle.std.proofs.lemmas.Fmt.{digits_decimal}
 use Rattle.stream_ident.specs.Number.{number_of}
 use Rattle.stream_ident.specs.Text.{split_once}
 use Rattle.stream_ident.specs.Token.{token_text, IsToken, token_of, token_of_parts, token_or, narrowed, token_lt}

@@ -1,10 +1,7 @@
 -- The words on lists.
-use Rattle.std.proofs.Common.{◌≡◌, ◌∙◌, ℕ, zero, suc, ◌+◌, ◌≤◌, ◌<◌, List, [], ◌∷◌, ◌++◌, if◌then◌else◌, ◌-◌, length, take, drop, get_or, Option, Some, None, refl, sym, ap, arith, Bool, false, nat_lt, true, true≢false}
-use Rattle.std.specs.List.{AllByRecursion}
+use Rattle.stream_ident.proofs.Prelude.{◌≡◌, ◌∙◌, ℕ, zero, suc, ◌+◌, ◌≤◌, ◌<◌, List, [], ◌∷◌, ◌++◌, length, take, drop, get_or, refl, sym, ap, arith, Bool, false, true, true≢false, ltb-false, drop_more, length-take, take-take, nil_from_length, AllByRecursion, set}
+use Rattle.std.proofs.Common.{if◌then◌else◌, ◌-◌, Option, Some, None, nat_lt}
 use Rattle.std.specs.Option.{is_some, option_map}
-use Rattle.std.specs.Prelude.{set}
-use Rattle.std.proofs.lemmas.Bool.{ltb-false}
-use Rattle.std.proofs.lemmas.List.{drop_more, length-take, take-take, nil_from_length}
 use Rattle.stream_ident.specs.Words.{change_at, or_else, past_from, changed_value, past, value_at}
 
 pub one-add : (n : ℕ) → 1 + n ≡ suc n

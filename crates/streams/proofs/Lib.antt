@@ -1,2 +1,3 @@
 mod Rounds
 mod Telling
+pub mod Prelude

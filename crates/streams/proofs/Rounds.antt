@@ -1,5 +1,5 @@
 -- Rounds that follow one another.
-use Rattle.std.proofs.Common.{◌≡◌, ℕ, suc, ◌+◌, ◌-◌, ◌<◌, Result, Ok, Err, refl, subst, arith}
+use Rattle.streams.proofs.Prelude.{◌≡◌, ℕ, suc, ◌+◌, ◌-◌, ◌<◌, Result, Ok, Err, refl, subst, arith}
 use Rattle.std.specs.declared.alloc.AllocError.{AllocError}
 use Rattle.silo_threads.specs.declared.ending.draining.Drained.{Drained}
 use Rattle.silo_threads.specs.declared.ending.draining.Drained.TheVariants as drained

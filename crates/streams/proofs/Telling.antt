@@ -1,7 +1,6 @@
 -- How a rule is told to one queue after another.
-use Rattle.std.proofs.Common.{◌≡◌, ℕ, suc, ◌+◌, ◌-◌, ◌<◌, Bool, ◌||◌, List, Result, Ok, Err, refl, sym, subst, arith, inl, inr}
+use Rattle.streams.proofs.Prelude.{QueuePass, ◌≡◌, ℕ, suc, ◌+◌, ◌-◌, ◌<◌, Bool, ◌||◌, List, Result, Ok, Err, refl, sym, subst, arith, inl, inr}
 use Rattle.stream_model.specs.declared.op.Op.{Op}
-use Rattle.silo_loops.specs.Lines.{QueuePass}
 use Rattle.streams.specs.declared.answers.CallError.{CallError}
 use Rattle.streams.specs.Answers as read
 use Rattle.streams.specs.Services.{Reads, TellsRule}

@@ -1,5 +1,5 @@
 -- All passes joined into one, and what its trace says of each.
-use Rattle.std.proofs.Common.{◌≡◌, ℕ, ◌+◌, ◌≤◌, All, get_or, ⊎_elim, inl, inr, List, [], ◌∷◌, ◌++◌, length, max, refl, sym, ap, ◌∙◌, subst, arith, length-append, append_assoc, append-nil}
+use Rattle.turnstile.proofs.Prelude.{◌≡◌, ℕ, ◌+◌, ◌≤◌, All, get_or, ⊎_elim, inl, inr, List, [], ◌∷◌, ◌++◌, length, max, refl, sym, ap, ◌∙◌, subst, arith, length-append, append_assoc, append-nil}
 use Rattle.std.proofs.Math.ListN.{get_or-append}
 use Rattle.std.proofs.Math.Seq.{get_or-append_seam}
 use Rattle.turnstile.specs.declared.history.Entry.{Entry}

@@ -1,5 +1,5 @@
 -- A call, or a look, in a turn that is held.
-use Rattle.std.proofs.Common.{◌≡◌, [], ◌∷◌, ◌++◌, Option, Some, Result, Ok, Err, MatchResult, refl, sym, ap, subst, unwrap_or, ◌∙◌}
+use Rattle.turnstile.proofs.Prelude.{◌≡◌, [], ◌∷◌, ◌++◌, Option, Some, Result, Ok, Err, MatchResult, refl, sym, ap, subst, unwrap_or, ◌∙◌}
 use Rattle.turnstile.specs.declared.turnstile.Refusal.{Refusal}
 use Rattle.turnstile.specs.Calls.{outside, Called, CalledNext, CallsBy, Found, FoundNone, HasOnlySeen, IsTurn, LooksBy, Waited}
 use Rattle.turnstile.specs.History.{entry}

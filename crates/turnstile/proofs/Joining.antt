@@ -1,6 +1,5 @@
 -- A pass that takes in another.
-use Rattle.std.proofs.Common.{◌≡◌, ℕ, List, [], ◌∷◌, drop, ap, ◌∙◌, subst, arith}
-use Rattle.atomic_table.specs.Seated.{TableId}
+use Rattle.turnstile.proofs.Prelude.{TableId, ◌≡◌, ℕ, List, [], ◌∷◌, drop, ap, ◌∙◌, subst, arith}
 use Rattle.turnstile.specs.declared.history.Entry.{Entry}
 use Rattle.turnstile.specs.declared.view.View.{View}
 use Rattle.turnstile.specs.History.{times, ShareNone, Claims, longer}

@@ -1,16 +1,9 @@
 -- Each step on the words of a turnstile keeps its rule, and tells what it says.
-use Rattle.std.proofs.Common.{◌≡◌, ℕ, ◌+◌, ◌%◌, ◌<◌, ◌≤◌, eqb, eq-eqb, ne_eqb, Bool, true, false, List, [], ◌∷◌, ◌++◌, length, get_or, set, drop, Option, Some, refl, sym, ap, ◌∙◌, subst, arith}
-use Rattle.std.proofs.lemmas.Option.{same_Some}
+use Rattle.turnstile.proofs.Prelude.{set_again, TableId, ◌≡◌, ℕ, ◌+◌, ◌%◌, ◌<◌, ◌≤◌, eqb, eq-eqb, ne_eqb, Bool, true, false, List, [], ◌∷◌, ◌++◌, length, get_or, set, drop, Option, Some, refl, sym, ap, ◌∙◌, subst, arith, same_Some, get_elem?, dite, some-injective, ℕ_discrete}
 use Rattle.std.proofs.Math.Nat.{mod-add-mod}
-use mathlib.Core.Logic.{dite}
 use mathlib.Core.Option as maybe
-use mathlib.Core.Option.{some-injective}
-use native.Mathlib.Decide.{ℕ_discrete}
-use lib.ListN.{get_elem?}
 use prog.Atomic.{either}
-use Rattle.atomic_table.specs.Seated.{TableId}
 use Rattle.atomic_table.specs.Table.{State, Step, step, Act, keeps, takes, gives, put_back, homes_after, carried_after, Valid, Allows, Splits, Joins, opening, Final, Seen}
-use Rattle.atomic_table.proofs.Lists.{set_again}
 use Rattle.turnstile.specs.declared.history.Entry.{Entry}
 use Rattle.turnstile.specs.declared.view.Held.{Held}
 use Rattle.turnstile.specs.declared.view.Start.{Start}

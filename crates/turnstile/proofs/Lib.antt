@@ -8,3 +8,4 @@ pub mod Phases
 pub mod Rolls
 pub mod Stands
 pub mod Totals
+pub mod Prelude

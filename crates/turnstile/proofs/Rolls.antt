@@ -1,9 +1,5 @@
 -- Which of the numbers, or of the tickets, are out, after each kind of step.
-use Rattle.std.proofs.Common.{◌≡◌, ℕ, ◌+◌, ◌≤◌, List, [], ◌∷◌, ◌++◌, length, set, ap, ◌∙◌, arith, length-append}
-use mathlib.Core.Logic.{dite}
-use mathlib.Core.Option.{some}
-use native.Mathlib.Decide.{ℕ_discrete, dec_le}
-use lib.ListN.{get_elem?}
+use Rattle.turnstile.proofs.Prelude.{◌≡◌, ℕ, ◌+◌, ◌≤◌, List, [], ◌∷◌, ◌++◌, length, set, ap, ◌∙◌, arith, length-append, get_elem?, dite, some, ℕ_discrete, dec_le}
 use Rattle.turnstile.specs.History.{times, total}
 use Rattle.turnstile.specs.Turns.{Out}
 use Rattle.turnstile.proofs.Totals.{times_same, times_else, times-append, total_set, total_same, total_snoc}

@@ -1,13 +1,7 @@
 -- What stands after each kind of step, and at the end, over plain numbers, the history, the homes and the views.
-use Rattle.std.proofs.Common.{◌≡◌, ◌≢◌, ℕ, zero, suc, ◌+◌, ◌%◌, ◌^◌, ◌<◌, ◌≤◌, ⊎_elim, Bool, true, false, List, [], ◌∷◌, ◌++◌, length, set, Option, Some, refl, sym, ap, ◌∙◌, subst, arith, length-append, append-nil}
-use Rattle.std.proofs.lemmas.Option.{none-some, same_Some}
+use Rattle.turnstile.proofs.Prelude.{at_set, at_snoc, at_longer, set_else, one_turn, ◌≡◌, ◌≢◌, ℕ, zero, suc, ◌+◌, ◌%◌, ◌^◌, ◌<◌, ◌≤◌, ⊎_elim, Bool, true, false, List, [], ◌∷◌, ◌++◌, length, set, Option, Some, refl, sym, ap, ◌∙◌, subst, arith, length-append, append-nil, none-some, same_Some, get_elem?, dite, some-injective, ℕ_discrete, dec_le}
 use Rattle.std.proofs.lemmas.Bool.{false≢true, false_from_ne_true}
-use mathlib.Core.Logic.{dite}
 use mathlib.Core.Option as maybe
-use mathlib.Core.Option.{some-injective}
-use native.Mathlib.Decide.{ℕ_discrete, dec_le}
-use lib.ListN.{get_elem?}
-use Rattle.atomic_table.proofs.Lists.{at_set, at_snoc, at_longer, set_else, one_turn}
 use Rattle.turnstile.specs.declared.history.Entry.{Entry}
 use Rattle.turnstile.specs.declared.view.Claim.{Claim}
 use Rattle.turnstile.specs.declared.view.Held.{Held}

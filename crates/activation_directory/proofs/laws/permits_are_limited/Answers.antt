@@ -1,4 +1,4 @@
-use Rattle.std.proofs.Common.{[], ◌∷◌, ◌≤◌, refl, arith}
+use Rattle.activation_directory.proofs.Prelude.{[], ◌∷◌, ◌≤◌, refl, arith}
 use Rattle.activation_directory.specs.Laws.{entered, refused}
 use Rattle.activation_directory.specs.Placed.{place_in}
 use Rattle.activation_directory.specs.Plain.{empty}

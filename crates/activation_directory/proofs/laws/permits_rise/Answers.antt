@@ -1,4 +1,4 @@
-use Rattle.std.proofs.Common.{◌∷◌, ◌++◌, arith}
+use Rattle.activation_directory.proofs.Prelude.{◌∷◌, ◌++◌, arith}
 use Rattle.activation_directory.specs.Laws.{entered}
 use Rattle.activation_directory.specs.Placed.{place_in}
 use Rattle.activation_directory.specs.Plain.{empty}

@@ -1,5 +1,4 @@
-use Rattle.std.proofs.Common.{◌≡◌, ◌∙◌, ap, Some, drop, arith}
-use Rattle.std.proofs.lemmas.Bool.{eq-eqb, ne_eqb}
+use Rattle.activation_directory.proofs.Prelude.{◌≡◌, ◌∙◌, ap, Some, drop, arith, eq-eqb, ne_eqb}
 use Rattle.activation_directory.specs.Placed.{count_on, least_on}
 use Rattle.activation_directory.proofs.Others.{count-others}
 use Rattle.activation_directory.proofs.Walk.{counted, passed}

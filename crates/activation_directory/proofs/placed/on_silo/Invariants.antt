@@ -1,4 +1,4 @@
-use Rattle.std.proofs.Common.{◌≡◌, ◌+◌, ◌≤◌, drop, length}
+use Rattle.activation_directory.proofs.Prelude.{◌≡◌, ◌+◌, ◌≤◌, drop, length}
 use Rattle.activation_directory.specs.Placed.{count_on, least_on}
 use Rattle.activation_directory.proofs.placed.on_silo.Given as goal
 

@@ -1,8 +1,5 @@
-use Rattle.std.proofs.Common.{◌≡◌, ℕ, List, length, get_or, take, sym, ap, ◌∙◌, arith, length-take}
+use Rattle.cache_cursor.proofs.Prelude.{tag_of, tags_of, ◌≡◌, ℕ, List, length, get_or, take, sym, ap, ◌∙◌, arith, length-take, is_owed, Event}
 use Rattle.std.proofs.lemmas.List.{length-map}
-use Rattle.stream_ident.specs.declared.event.Event.{Event}
-use Rattle.stream_ident.specs.Event.{is_owed}
-use Rattle.queue_mapper.specs.Place.{tag_of, tags_of}
 use Rattle.cache_cursor.proofs.SeekLemmas.{hit, miss, untagged_in, none_then, none_tagged}
 use Rattle.cache_cursor.proofs.cursor.find_from.Goals as goal
 

@@ -1,5 +1,4 @@
-use Rattle.std.proofs.Common.{◌-◌, ◌≤◌, length}
-use Rattle.stream_ident.specs.Event.{is_owed}
+use Rattle.cache_cursor.proofs.Prelude.{◌-◌, ◌≤◌, length, is_owed}
 use Rattle.cache_cursor.specs.Seek.{NoneBetween}
 use Rattle.cache_cursor.proofs.cursor.find_from.Given as goal
 

@@ -1,5 +1,4 @@
-use Rattle.std.specs.Prelude.{not}
-use Rattle.stream_ident.specs.Token.{token_lt}
+use Rattle.cache_cursor.proofs.Prelude.{not, token_lt}
 use Rattle.cache_cursor.specs.Seek.{NoneBetween}
 use Rattle.cache_cursor.proofs.cursor.first_from_token.Given as goal
 

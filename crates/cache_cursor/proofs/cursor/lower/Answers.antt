@@ -1,6 +1,4 @@
-use Rattle.std.proofs.Common.{◌+◌, ◌*◌, ◌≤◌, length, ap, ◌∙◌, arith}
-use Rattle.std.specs.Prelude.{not}
-use Rattle.stream_ident.specs.Token.{token_lt}
+use Rattle.cache_cursor.proofs.Prelude.{◌+◌, ◌*◌, ◌≤◌, length, ap, ◌∙◌, arith, not, token_lt}
 use Rattle.queue_cache.specs.Cache.{high}
 use Rattle.cache_cursor.specs.Seek.{IsFirst}
 use Rattle.cache_cursor.proofs.SeekLemmas.{first_there, none_there, least-found, least-none}

@@ -1,6 +1,4 @@
-use Rattle.std.proofs.Common.{◌*◌}
-use Rattle.std.specs.Prelude.{not}
-use Rattle.stream_ident.specs.Token.{token_lt}
+use Rattle.cache_cursor.proofs.Prelude.{◌*◌, not, token_lt}
 use Rattle.cache_cursor.specs.Seek.{NoneBetween}
 use Rattle.cache_cursor.proofs.cursor.lower.Given as goal
 

@@ -1,6 +1,4 @@
-use Rattle.std.proofs.Common.{◌≡◌, ◌-◌, ap, refl, ◌∙◌, sym, arith}
-use Rattle.stream_ident.specs.Event.{is_owed}
-use Rattle.queue_mapper.specs.Place.{tag_of}
+use Rattle.cache_cursor.proofs.Prelude.{tag_of, ◌≡◌, ◌-◌, ap, refl, ◌∙◌, sym, arith, is_owed}
 use Rattle.cache_cursor.proofs.SeekLemmas.{next_none, none_at_last}
 use Rattle.cache_cursor.proofs.cursor.next.Goals as goal
 

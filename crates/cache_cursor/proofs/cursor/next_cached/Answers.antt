@@ -1,5 +1,4 @@
-use Rattle.std.proofs.Common.{◌∙◌}
-use Rattle.stream_ident.specs.Event.{is_owed}
+use Rattle.cache_cursor.proofs.Prelude.{◌∙◌, is_owed}
 use Rattle.cache_cursor.proofs.SeekLemmas.{next_found, next_none}
 use Rattle.cache_cursor.proofs.cursor.next_cached.Goals as goal
 

@@ -1,6 +1,4 @@
-use Rattle.std.proofs.Common.{length, subst, sym, arith}
-use Rattle.std.specs.Prelude.{IfNone}
-use Rattle.stream_ident.specs.Event.{is_owed}
+use Rattle.cache_cursor.proofs.Prelude.{length, subst, sym, arith, IfNone, is_owed}
 use Rattle.cache_cursor.specs.Seek.{NoneBetween}
 use Rattle.cache_cursor.proofs.SeekLemmas.{none_tagged, untagged_clear}
 use Rattle.cache_cursor.proofs.cursor.next_from.Goals as goal

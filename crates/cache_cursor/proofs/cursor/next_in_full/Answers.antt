@@ -1,6 +1,5 @@
-use Rattle.std.proofs.Common.{length, get_or, sym, ap, ◌∙◌, arith}
+use Rattle.cache_cursor.proofs.Prelude.{length, get_or, sym, ap, ◌∙◌, arith, is_owed}
 use Rattle.cache_cursor.proofs.SeekLemmas.{hit, miss, untagged_clear, none_then, none_tagged}
-use Rattle.stream_ident.specs.Event.{is_owed}
 use Rattle.cache_cursor.proofs.cursor.next_in_full.Goals as goal
 
 pub returns-then-is_owed-clause-found : goal.returns-then-is_owed-clause-found

@@ -1,6 +1,4 @@
-use Rattle.std.proofs.Common.{◌≡◌, ℕ, ◌+◌, ◌*◌, ◌/◌, ◌%◌, Bool, List, length, take, drop, subst, arith}
-use Rattle.stream_ident.specs.declared.event.Event.{Event}
-use Rattle.stream_ident.specs.Event.{is_owed}
+use Rattle.cache_cursor.proofs.Prelude.{◌≡◌, ℕ, ◌+◌, ◌*◌, ◌/◌, ◌%◌, Bool, List, length, take, drop, subst, arith, is_owed, Event}
 use Rattle.cache_cursor.specs.Seek.{IsFirst, NoneBetween}
 use Rattle.cache_cursor.proofs.SeekLemmas.{none_in_block, first_in_block, first_there, none_there}
 use Rattle.cache_cursor.proofs.cursor.seek.Goals as goal

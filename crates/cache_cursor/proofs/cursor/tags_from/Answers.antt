@@ -1,4 +1,4 @@
-use Rattle.std.proofs.Common.{◌∙◌, true, arith, length-set}
+use Rattle.cache_cursor.proofs.Prelude.{◌∙◌, true, arith, length-set}
 use Rattle.cache_cursor.proofs.SeekLemmas.{marked-all, marked-more}
 use Rattle.cache_cursor.proofs.cursor.tags_from.Goals as goal
 

@@ -1,4 +1,4 @@
-use Rattle.std.proofs.Common.{◌≡◌, length}
+use Rattle.cache_cursor.proofs.Prelude.{◌≡◌, length}
 use Rattle.cache_cursor.specs.declared.cursor.TheConstants.{TAGS}
 use Rattle.cache_cursor.proofs.SeekLemmas.{IsMarkedUpTo}
 use Rattle.cache_cursor.proofs.cursor.tags_from.Given as goal

@@ -1,11 +1,6 @@
-use Rattle.std.proofs.Common.{ap, rules}
+use Rattle.grain_table.proofs.Prelude.{first_past-from, is_up_to, ap, rules, option_copied, grain_order, grain_lt, same_grain}
 use Rattle.std.proofs.lemmas.List.Sorted.{IsPartitionPoint-from_clause}
-use Rattle.std.specs.Option.{option_copied}
-use Rattle.stream_ident.specs.Name.{grain_lt, same_grain}
-use Rattle.ranked_index.specs.Ranked.{is_up_to}
-use Rattle.ranked_index.proofs.EntryLemmas.{first_past-from}
 use Rattle.grain_table.specs.Table.{name_of}
-use Rattle.stream_ident.proofs.NameOrders.{grain_order}
 use Rattle.grain_table.proofs.table.first_past.Goals as goal
 
 pub returns : goal.returns

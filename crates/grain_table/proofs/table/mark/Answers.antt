@@ -1,6 +1,5 @@
-use Rattle.std.proofs.Common.{◌≡◌, ◌∙◌, ap, sym, refl, Bool, true, false, true≢false, not, insert, is_ok, if◌then◌else◌, arith}
+use Rattle.grain_table.proofs.Prelude.{IsListed, ◌≡◌, ◌∙◌, ap, sym, refl, Bool, true, false, true≢false, not, insert, is_ok, if◌then◌else◌, arith}
 use Rattle.std.proofs.Math.Bool.{beq}
-use Rattle.ranked_index.specs.Listed.{IsListed}
 use Rattle.grain_table.specs.declared.table.Standing.{Standing}
 use Rattle.grain_table.proofs.TableLemmas.{has-room, last-before, put-in, stays, taken-out}
 use Rattle.grain_table.proofs.table.mark.Goals as goal

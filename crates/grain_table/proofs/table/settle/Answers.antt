@@ -1,4 +1,4 @@
-use Rattle.std.proofs.Common.{vec_capacity}
+use Rattle.grain_table.proofs.Prelude.{vec_capacity}
 use Rattle.grain_table.proofs.ChangeLemmas.{few-run, some-ran}
 use Rattle.grain_table.proofs.table.settle.Goals as goal
 

@@ -1,4 +1,4 @@
-use Rattle.std.proofs.Common.{◌∙◌, ap, refl, sym, subst}
+use Rattle.partition_queue.proofs.Prelude.{◌∙◌, ap, refl, sym, subst}
 use Rattle.std.specs.Result.{IsOk}
 use Rattle.stream_ident.specs.Name.{payload_or}
 use Rattle.stream_ident.proofs.NameLemmas.{wrong_in_payload-none}

@@ -1,7 +1,4 @@
-use Rattle.std.proofs.Common.{◌≡◌, ◌+◌, ◌-◌, ◌*◌, ◌≤◌, ◌++◌, length, drop, take, vec_len, vec_capacity}
-use Rattle.std.specs.List.{AllByRecursion, concat}
-use Rattle.stream_ident.specs.Alphabet.{IsPayload}
-use Rattle.stream_ident.specs.declared.limits.TheConstants.{MOST_EVENTS, PAYLOAD_BYTES}
+use Rattle.partition_queue.proofs.Prelude.{◌≡◌, ◌+◌, ◌-◌, ◌*◌, ◌≤◌, ◌++◌, length, drop, take, vec_len, vec_capacity, AllByRecursion, concat, IsPayload, MOST_EVENTS, PAYLOAD_BYTES}
 use Rattle.partition_queue.specs.Log.{entries_of}
 use Rattle.partition_queue.proofs.queue.push_events.Given as goal
 

@@ -1,6 +1,4 @@
-use Rattle.std.proofs.Common.{◌≡◌, ◌+◌, ◌-◌, ◌*◌, ◌≤◌, ◌++◌, length, drop, map, vec_len, vec_capacity}
-use Rattle.std.specs.List.{AllByRecursion, concat}
-use Rattle.stream_ident.specs.Alphabet.{IsPayload}
+use Rattle.partition_queue.proofs.Prelude.{◌≡◌, ◌+◌, ◌-◌, ◌*◌, ◌≤◌, ◌++◌, length, drop, map, vec_len, vec_capacity, AllByRecursion, concat, IsPayload}
 use Rattle.partition_queue.specs.Log.{entries_of}
 use Rattle.partition_queue.proofs.queue.push_slices.Given as goal
 

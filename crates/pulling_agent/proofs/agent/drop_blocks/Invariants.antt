@@ -1,4 +1,4 @@
-use Rattle.std.proofs.Common.{◌≡◌}
+use Rattle.pulling_agent.proofs.Prelude.{◌≡◌}
 use Rattle.pulling_agent.specs.Agent.{without_blocks}
 use Rattle.pulling_agent.proofs.agent.drop_blocks.Given as goal
 

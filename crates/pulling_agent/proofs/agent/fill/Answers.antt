@@ -1,5 +1,4 @@
-use Rattle.std.proofs.Common.{◌+◌, ◌<◌, length, arith}
-use Rattle.queue_cache.specs.Cache.{high}
+use Rattle.pulling_agent.proofs.Prelude.{high, ◌+◌, ◌<◌, length, arith}
 use Rattle.pulling_agent.proofs.FillLemmas.{none_taken, one_taken}
 use Rattle.pulling_agent.proofs.agent.fill.Goals as goal
 

@@ -1,4 +1,4 @@
-use Rattle.std.proofs.Common.{◌≡◌}
+use Rattle.pulling_agent.proofs.Prelude.{◌≡◌}
 use Rattle.pulling_agent.proofs.FillLemmas.{taken}
 use Rattle.pulling_agent.proofs.agent.fill.Given as goal
 

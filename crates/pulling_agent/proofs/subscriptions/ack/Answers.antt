@@ -1,4 +1,4 @@
-use Rattle.std.proofs.Common.{◌<◌, length, arith}
+use Rattle.pulling_agent.proofs.Prelude.{◌<◌, length, arith}
 use Rattle.std.proofs.lemmas.List.Elements.{recursion_from_All}
 use Rattle.stream_ident.proofs.WordLemmas.{past_from-within}
 use Rattle.pulling_agent.proofs.subscriptions.ack.Goals as goal

@@ -1,5 +1,4 @@
-use Rattle.std.proofs.Common.{◌∙◌, ap, arith}
-use Rattle.stream_ident.specs.Token.{same_token}
+use Rattle.pulling_agent.proofs.Prelude.{◌∙◌, ap, arith, same_token}
 use Rattle.pulling_agent.proofs.HandledLemmas.{found_at, not_there}
 use Rattle.pulling_agent.proofs.subscriptions.handled_at.Goals as goal
 

@@ -1,6 +1,4 @@
-use Rattle.std.proofs.Common.{◌≡◌, ◌+◌, ◌-◌, ◌/◌, ◌<◌, true, false, length, get_or, arith}
-use Rattle.stream_ident.specs.Token.{token_lt}
-use Rattle.partition_queue.specs.Queue.{token_at}
+use Rattle.pulling_agent.proofs.Prelude.{token_at, ◌≡◌, ◌+◌, ◌-◌, ◌/◌, ◌<◌, true, false, length, get_or, arith, token_lt}
 use Rattle.pulling_agent.proofs.HandledLemmas.{less_below, others_above}
 use Rattle.pulling_agent.proofs.subscriptions.lower_bound.Goals as goal
 

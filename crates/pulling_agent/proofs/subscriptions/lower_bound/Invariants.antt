@@ -1,6 +1,4 @@
-use Rattle.std.proofs.Common.{◌≡◌, ℕ, ◌-◌, ◌<◌, ◌≤◌, true, false, length, get_or}
-use Rattle.stream_ident.specs.Token.{token_lt}
-use Rattle.partition_queue.specs.Queue.{token_at}
+use Rattle.pulling_agent.proofs.Prelude.{token_at, ◌≡◌, ℕ, ◌-◌, ◌<◌, ◌≤◌, true, false, length, get_or, token_lt}
 use Rattle.pulling_agent.proofs.subscriptions.lower_bound.Given as goal
 
 -- the tokens below low are less than the one sought, and those from high on aren't

@@ -1,4 +1,4 @@
-use Rattle.std.proofs.Common.{◌≡◌, ◌∙◌, ℕ, ◌+◌, ◌-◌, ◌/◌, inr, List, drop, take, sym, ap, subst, arith}
+use Rattle.ranked_index.proofs.Prelude.{◌≡◌, ◌∙◌, ℕ, ◌+◌, ◌-◌, ◌/◌, inr, List, drop, take, sym, ap, subst, arith}
 use Rattle.std.specs.Prelude.{length}
 use Rattle.ranked_index.specs.Keys.{filled}
 use Rattle.ranked_index.specs.Tree.{node_at, IsTreeBut}

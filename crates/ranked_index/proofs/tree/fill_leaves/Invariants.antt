@@ -1,4 +1,4 @@
-use Rattle.std.proofs.Common.{◌≡◌, ◌-◌}
+use Rattle.ranked_index.proofs.Prelude.{◌≡◌, ◌-◌}
 use Rattle.ranked_index.specs.Keys.{filled}
 use Rattle.ranked_index.proofs.tree.fill_leaves.Given as goal
 

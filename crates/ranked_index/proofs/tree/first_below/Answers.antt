@@ -1,4 +1,4 @@
-use Rattle.std.proofs.Common.{arith}
+use Rattle.ranked_index.proofs.Prelude.{arith}
 use Rattle.ranked_index.proofs.TreeLemmas.{left_below, right_below, leaf_below}
 use Rattle.ranked_index.proofs.tree.first_below.Goals as goal
 

@@ -1,4 +1,4 @@
-use Rattle.std.proofs.Common.{ℕ, ◌-◌, ◌<◌, ◌≤◌, length}
+use Rattle.ranked_index.proofs.Prelude.{ℕ, ◌-◌, ◌<◌, ◌≤◌, length}
 use Rattle.ranked_index.specs.Tree.{IsSubtreeAtMost}
 use Rattle.ranked_index.proofs.tree.first_below.Given as goal
 

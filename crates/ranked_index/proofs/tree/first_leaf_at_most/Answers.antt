@@ -1,4 +1,4 @@
-use Rattle.std.proofs.Common.{◌+◌, arith}
+use Rattle.ranked_index.proofs.Prelude.{◌+◌, arith}
 use Rattle.ranked_index.proofs.Doubled.{doubled-ge}
 use Rattle.ranked_index.proofs.tree.first_leaf_at_most.Goals as goal
 

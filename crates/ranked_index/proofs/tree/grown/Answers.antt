@@ -1,5 +1,4 @@
-use Rattle.std.proofs.Common.{◌≡◌, ◌+◌, ◌/◌, ◌∙◌, refl, length, drop, sym, ap, arith}
-use Rattle.std.proofs.lemmas.List.{take_at}
+use Rattle.ranked_index.proofs.Prelude.{◌≡◌, ◌+◌, ◌/◌, ◌∙◌, refl, length, drop, sym, ap, arith, take_at}
 use Rattle.ranked_index.proofs.LeafLemmas.{same_past}
 use Rattle.ranked_index.specs.Tree.{zero_node}
 use Rattle.ranked_index.proofs.tree.grown.Goals as goal

@@ -1,4 +1,4 @@
-use Rattle.std.proofs.Common.{◌∙◌, ◌+◌, ◌/◌, take, ap, arith}
+use Rattle.ranked_index.proofs.Prelude.{◌∙◌, ◌+◌, ◌/◌, take, ap, arith}
 use Rattle.ranked_index.proofs.LeafLemmas.{same_past, least_tree-again, leaves-insert}
 use Rattle.ranked_index.proofs.tree.insert_leaf.Goals as goal
 

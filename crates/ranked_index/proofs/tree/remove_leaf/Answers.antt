@@ -1,5 +1,4 @@
-use Rattle.std.proofs.Common.{◌∙◌, ◌+◌, ◌-◌, ◌/◌, inl, inr, take, ap, arith}
-use Rattle.std.proofs.lemmas.Bool.{cases_eq}
+use Rattle.ranked_index.proofs.Prelude.{◌∙◌, ◌+◌, ◌-◌, ◌/◌, inl, inr, take, ap, arith, cases_eq}
 use Rattle.ranked_index.proofs.LeafLemmas.{same_past, least_tree-again}
 use Rattle.ranked_index.proofs.RemoveLemmas.{leaves-remove}
 use Rattle.ranked_index.proofs.tree.remove_leaf.Goals as goal

@@ -1,4 +1,4 @@
-use Rattle.std.proofs.Common.{◌∙◌, ◌+◌, ◌/◌, set, arith, length-set, get_or-set_other}
+use Rattle.ranked_index.proofs.Prelude.{◌∙◌, ◌+◌, ◌/◌, set, arith, length-set, get_or-set_other}
 use Rattle.ranked_index.specs.Tree.{zero_node}
 use Rattle.ranked_index.proofs.LeafLemmas.{same_past, least_tree-again, leaves-set}
 use Rattle.ranked_index.proofs.tree.set_leaf.Goals as goal

@@ -1,5 +1,4 @@
-use Rattle.std.proofs.Common.{◌∙◌, arith, length-set}
-use Rattle.std.proofs.lemmas.List.{drop-set-lt}
+use Rattle.ranked_index.proofs.Prelude.{◌∙◌, arith, length-set, drop-set-lt}
 use Rattle.ranked_index.proofs.SettleLemmas.{settled_node}
 use Rattle.ranked_index.proofs.tree.settle_path.Goals as goal
 

@@ -1,5 +1,4 @@
-use Rattle.std.proofs.Common.{◌∙◌, arith}
-use Rattle.std.proofs.lemmas.List.{drop-set-lt}
+use Rattle.ranked_index.proofs.Prelude.{◌∙◌, arith, drop-set-lt}
 use Rattle.ranked_index.proofs.SettleLemmas.{settled_step}
 use Rattle.ranked_index.proofs.tree.settle_row.Goals as goal
 

@@ -1,4 +1,4 @@
-use Rattle.std.proofs.Common.{◌≡◌, ℕ, ◌<◌, drop}
+use Rattle.ranked_index.proofs.Prelude.{◌≡◌, ℕ, ◌<◌, drop}
 use Rattle.ranked_index.proofs.SettleLemmas.{IsSettled}
 use Rattle.ranked_index.proofs.tree.settle_row.Given as goal
 

@@ -1,4 +1,4 @@
-use Rattle.std.proofs.Common.{arith}
+use Rattle.ranked_index.proofs.Prelude.{arith}
 use Rattle.ranked_index.proofs.TreeLemmas.{climbed_step, climbed_here}
 use Rattle.ranked_index.proofs.tree.subtree_at_most.Goals as goal
 use Rattle.ranked_index.proofs.tree.subtree_at_most.Goals.{else-at-eq1-via-then-at-eq1+else-number-bound, else-at-eq1-via-else-at-eq1}

@@ -1,6 +1,5 @@
-use Rattle.std.proofs.Common.{◌∙◌, sym, arith, ◌≢◌, length}
-use Rattle.std.proofs.lemmas.Bool.{eqb-false}
-use Rattle.std.proofs.lemmas.List.{length-take}
+use Rattle.stream_ident.proofs.Prelude.{◌∙◌, sym, arith, length, eqb-false, length-take}
+use Rattle.std.proofs.Common.{◌≢◌}
 use Rattle.stream_ident.specs.declared.limits.TheConstants.{NAME_BYTES}
 use Rattle.stream_ident.proofs.NameLemmas.{wrong_in_name-short}
 use Rattle.stream_ident.proofs.ident.wrong_in_name.Goals as goal

@@ -1,5 +1,4 @@
-use Rattle.std.proofs.Common.{◌∙◌, sym, arith}
-use Rattle.std.proofs.lemmas.List.{length-take}
+use Rattle.stream_ident.proofs.Prelude.{◌∙◌, sym, arith, length-take}
 use Rattle.stream_ident.specs.Alphabet.{is_printable}
 use Rattle.stream_ident.specs.declared.limits.TheConstants.{PAYLOAD_BYTES}
 use Rattle.stream_ident.proofs.NameLemmas.{wrong_place-short}

@@ -1,8 +1,7 @@
-use Rattle.std.proofs.Common.{◌≡◌, ℕ, ◌<◌, ◌≤◌, ◌^◌, true, List, length, Result, Ok, Err, sym, ◌∙◌, arith, refl, inl, inr}
+use Rattle.stream_ident.proofs.Prelude.{◌≡◌, ℕ, ◌<◌, ◌≤◌, true, List, length, sym, ◌∙◌, arith, refl, inl, inr, le-ltb, cases_lt, IsAscii-from_digits}
+use Rattle.std.proofs.Common.{◌^◌, Result, Ok, Err}
 use Rattle.std.specs.Result.{OkIff, result_ok}
-use Rattle.std.proofs.lemmas.Bool.{le-ltb, cases_lt}
 use Rattle.std.proofs.lemmas.Str.Parse.{parse_digits}
-use Rattle.std.proofs.lemmas.Fmt.{IsAscii-from_digits}
 use Rattle.stream_ident.specs.Number.{is_numeral, number_of, value_after}
 use Rattle.stream_ident.proofs.NumberLemmas.{numerals, is_numeral_parts, number_from}
 use Rattle.stream_ident.proofs.text.parse_number.Goals as goal

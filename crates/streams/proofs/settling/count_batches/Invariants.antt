@@ -1,5 +1,4 @@
-use Rattle.std.proofs.Common.{◌≡◌, ◌*◌, ◌^◌, ◌≤◌}
-use Rattle.silo_threads.specs.Calls.{turnstiles}
+use Rattle.streams.proofs.Prelude.{turnstiles, ◌≡◌, ◌*◌, ◌^◌, ◌≤◌}
 use Rattle.streams.specs.Settling.{Counts}
 use Rattle.streams.proofs.settling.count_batches.Given as goal
 

@@ -1,5 +1,4 @@
-use Rattle.std.proofs.Common.{◌≡◌, ◌≢◌, ◌∙◌, ◌+◌, ◌-◌, ℕ, suc, Result, Ok, Err, arith, inl, inr, refl, subst, sym}
-use Rattle.std.proofs.lemmas.Result.{err_from_is_err_and}
+use Rattle.streams.proofs.Prelude.{◌≡◌, ◌≢◌, ◌∙◌, ◌+◌, ◌-◌, ℕ, suc, Result, Ok, Err, arith, inl, inr, refl, subst, sym, err_from_is_err_and}
 use Rattle.std.specs.declared.alloc.AllocError.{AllocError}
 use Rattle.silo_threads.specs.declared.ending.draining.Drained.{Drained}
 use Rattle.silo_threads.specs.Draining.{EndsLooking}

@@ -1,6 +1,4 @@
-use Rattle.std.proofs.Common.{◌≡◌, ◌-◌, List, Result}
-use Rattle.silo_loops.specs.Lines.{QueuePass}
-use Rattle.silo_threads.specs.Calls.{turnstiles}
+use Rattle.streams.proofs.Prelude.{QueuePass, turnstiles, ◌≡◌, ◌-◌, List, Result}
 use Rattle.streams.specs.declared.answers.SettleError.{SettleError}
 use Rattle.streams.specs.Settling.{Settles}
 use Rattle.streams.proofs.settling.settle.Given as goal

@@ -1,7 +1,4 @@
-use Rattle.std.proofs.Common.{◌≡◌, ◌∙◌, ap, ℕ, ◌+◌, ◌≤◌, ◌^◌, ◌++◌, ◌∷◌, [], List, is_ok, insert, if◌then◌else◌, length, vec_capacity, arith}
-use Rattle.std.proofs.lemmas.List.{length_push}
-use Rattle.stream_ident.specs.declared.ident.GrainId.{GrainId}
-use Rattle.consumer_grain.specs.Activations.{PlainActivation}
+use Rattle.grain_table.proofs.Prelude.{PlainActivation, ◌≡◌, ◌∙◌, ap, ℕ, ◌+◌, ◌≤◌, ◌^◌, ◌++◌, ◌∷◌, [], List, is_ok, insert, if◌then◌else◌, length, vec_capacity, arith, length_push, GrainId}
 use Rattle.grain_table.specs.Grains.{PlainGrains, number_of}
 use Rattle.grain_table.proofs.ChangeLemmas.{added-but}
 use Rattle.grain_table.proofs.TableLemmas.{distinct-ranked, ranked-more}

@@ -1,6 +1,4 @@
-use Rattle.std.proofs.Common.{ap, vec_capacity}
-use Rattle.stream_ident.specs.Words.{past}
-use Rattle.consumer_grain.specs.Activations.{begin, PlainActivation}
+use Rattle.grain_table.proofs.Prelude.{begin, PlainActivation, ap, vec_capacity, past}
 use Rattle.consumer_grain.specs.declared.told.Begun.{Begun}
 use Rattle.grain_table.proofs.ChangeLemmas.{changed, changed-but, changed-ranked}
 use Rattle.grain_table.proofs.table.GrainTable.begin.Goals as goal

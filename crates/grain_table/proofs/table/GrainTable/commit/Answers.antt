@@ -1,5 +1,4 @@
-use Rattle.std.proofs.Common.{ap, vec_capacity}
-use Rattle.consumer_grain.specs.Activations.{commit, PlainActivation}
+use Rattle.grain_table.proofs.Prelude.{commit, PlainActivation, ap, vec_capacity}
 use Rattle.consumer_grain.specs.declared.told.Ended.{Ended}
 use Rattle.grain_table.proofs.ChangeLemmas.{changed, changed-but, changed-ranked}
 use Rattle.grain_table.proofs.table.GrainTable.commit.Goals as goal

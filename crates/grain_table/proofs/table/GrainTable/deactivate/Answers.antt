@@ -1,5 +1,4 @@
-use Rattle.std.proofs.Common.{vec_capacity}
-use Rattle.consumer_grain.specs.Activations.{deactivated}
+use Rattle.grain_table.proofs.Prelude.{deactivated, vec_capacity}
 use Rattle.grain_table.proofs.ChangeLemmas.{changed, changed-but, changed-ranked}
 use Rattle.grain_table.proofs.table.GrainTable.deactivate.Goals as goal
 

@@ -1,5 +1,4 @@
-use Rattle.std.proofs.Common.{◌≡◌, ◌∙◌, ap, sym, refl, ℕ, ◌-◌, ◌<◌, length, Bool, true, false, true≢false, IsTrue, ◌↔◌, Option, Some, None, slice_index, arith}
-use Rattle.std.proofs.lemmas.List.{get_or_default}
+use Rattle.grain_table.proofs.Prelude.{◌≡◌, ◌∙◌, ap, sym, refl, ℕ, ◌-◌, ◌<◌, length, Bool, true, false, true≢false, IsTrue, ◌↔◌, Option, Some, None, slice_index, arith, get_or_default}
 use Rattle.std.specs.Bool.{then_some}
 use Rattle.grain_table.specs.Grains.{PlainGrains, number_of}
 use Rattle.grain_table.proofs.TableLemmas.{last-named, number_of-found}

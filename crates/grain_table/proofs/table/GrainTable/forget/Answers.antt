@@ -1,5 +1,4 @@
-use Rattle.std.proofs.Common.{vec_capacity}
-use Rattle.consumer_grain.specs.Activations.{forgotten}
+use Rattle.grain_table.proofs.Prelude.{forgotten, vec_capacity}
 use Rattle.grain_table.proofs.ChangeLemmas.{changed, changed-but, changed-ranked}
 use Rattle.grain_table.proofs.table.GrainTable.forget.Goals as goal
 

@@ -1,8 +1,4 @@
-use Rattle.std.proofs.Common.{◌≡◌, ◌∙◌, ap, sym, subst, ◌<◌, ◌≤◌, length, get_or, Some, true≢false, arith}
-use Rattle.std.proofs.lemmas.Bool.{ltb-false, ltb-true}
-use Rattle.stream_ident.specs.declared.ident.GrainId.{GrainId}
-use Rattle.stream_ident.specs.Name.{same_grain}
-use Rattle.consumer_grain.specs.Activations.{PlainActivation}
+use Rattle.grain_table.proofs.Prelude.{PlainActivation, ◌≡◌, ◌∙◌, ap, sym, subst, ◌<◌, ◌≤◌, length, get_or, Some, true≢false, arith, ltb-false, ltb-true, same_grain, GrainId}
 use Rattle.grain_table.specs.Changes.{no_grain}
 use Rattle.grain_table.specs.Grains.{PlainGrains, number_of}
 use Rattle.grain_table.proofs.TableLemmas.{distinct-ranked, number_of-found, number_of-read, read_entry}

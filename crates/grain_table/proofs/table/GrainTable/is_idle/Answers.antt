@@ -1,6 +1,4 @@
-use Rattle.std.proofs.Common.{◌≡◌, ◌∙◌, ap, sym, subst, [], length, true≢false}
-use Rattle.std.proofs.lemmas.Bool.{eqb-false, eqb-true}
-use Rattle.std.proofs.lemmas.List.{nil_from_length}
+use Rattle.grain_table.proofs.Prelude.{◌≡◌, ◌∙◌, ap, sym, subst, [], length, true≢false, eqb-false, eqb-true, nil_from_length}
 use Rattle.std.specs.Prelude.{eqb}
 use Rattle.grain_table.specs.Grains.{AreIdle}
 use Rattle.grain_table.specs.Table.{AreReady}

@@ -1,4 +1,4 @@
-use Rattle.std.proofs.Common.{◌≡◌, ◌≤◌, length}
+use Rattle.grain_table.proofs.Prelude.{◌≡◌, ◌≤◌, length}
 use Rattle.grain_table.specs.Grains.{is_running}
 use Rattle.grain_table.proofs.TableLemmas.{least_from}
 use Rattle.grain_table.proofs.table.GrainTable.least_running.Given as goal

@@ -1,4 +1,4 @@
-use Rattle.std.proofs.Common.{subst}
+use Rattle.grain_table.proofs.Prelude.{subst}
 use Rattle.grain_table.specs.Grains.{AreDistinct}
 use Rattle.grain_table.proofs.TableLemmas.{distinct-ranked}
 use Rattle.grain_table.proofs.table.GrainTable.len.Goals as goal

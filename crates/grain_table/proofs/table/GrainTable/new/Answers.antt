@@ -1,4 +1,4 @@
-use Rattle.std.proofs.Common.{◌≡◌, ap, refl, ℕ, List, [], ◌∷◌, length, vec_capacity, arith}
+use Rattle.grain_table.proofs.Prelude.{◌≡◌, ap, refl, ℕ, List, [], ◌∷◌, length, vec_capacity, arith}
 use Rattle.ranked_index.proofs.RankLemmas.{ranking-from}
 use Rattle.grain_table.specs.Grains.{PlainGrains}
 use Rattle.grain_table.specs.Table.{IsTable}

@@ -1,5 +1,4 @@
-use Rattle.std.proofs.Common.{◌∙◌, ap, vec_capacity}
-use Rattle.consumer_grain.specs.Activations.{offered, PlainActivation}
+use Rattle.grain_table.proofs.Prelude.{offered, PlainActivation, ◌∙◌, ap, vec_capacity}
 use Rattle.consumer_grain.specs.declared.told.Offered.{Offered}
 use Rattle.grain_table.proofs.ChangeLemmas.{changed, changed-but, changed-ranked, was-at}
 use Rattle.grain_table.proofs.table.GrainTable.offer.Goals as goal

@@ -1,8 +1,4 @@
-use Rattle.std.proofs.Common.{◌≡◌, ◌∙◌, ap, sym, ℕ, ◌<◌, ◌≤◌, List, length, get_or, Some, arith}
-use Rattle.std.proofs.lemmas.Bool.{ltb-false, ltb-true}
-use Rattle.std.specs.Option.{option_copied}
-use Rattle.stream_ident.specs.declared.ident.GrainId.{GrainId}
-use Rattle.ranked_index.specs.Ranked.{entry_at}
+use Rattle.grain_table.proofs.Prelude.{entry_at, ◌≡◌, ◌∙◌, ap, sym, ℕ, ◌<◌, ◌≤◌, List, length, get_or, Some, arith, ltb-false, ltb-true, option_copied, GrainId}
 use Rattle.grain_table.specs.Changes.{no_grain}
 use Rattle.grain_table.specs.Grains.{PlainGrains, ready_after}
 use Rattle.grain_table.specs.Table.{name_of}

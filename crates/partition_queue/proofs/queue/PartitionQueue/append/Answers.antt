@@ -1,6 +1,4 @@
-use Rattle.std.proofs.Common.{◌∙◌, sym, ap, subst, length, rules}
-use Rattle.std.specs.List.{AllByRecursion}
-use Rattle.stream_ident.specs.Alphabet.{IsPayload}
+use Rattle.partition_queue.proofs.Prelude.{◌∙◌, sym, ap, subst, length, rules, AllByRecursion, IsPayload}
 use Rattle.partition_queue.specs.Queue.{append, Fits}
 use Rattle.partition_queue.proofs.AppendLemmas.{Kept, log_of, still_log, written-appends, IsWritten}
 use Rattle.partition_queue.proofs.queue.PartitionQueue.append.Goals as goal

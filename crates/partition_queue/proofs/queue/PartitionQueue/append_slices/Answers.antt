@@ -1,5 +1,4 @@
-use Rattle.std.proofs.Common.{◌∙◌, sym, ap, subst, length, map, ℕ, List, rules}
-use Rattle.std.proofs.lemmas.List.{length-map}
+use Rattle.partition_queue.proofs.Prelude.{◌∙◌, sym, ap, subst, length, map, ℕ, List, rules, length-map}
 use Rattle.partition_queue.specs.Queue.{append, Fits}
 use Rattle.partition_queue.proofs.AppendLemmas.{Kept, log_of, still_log, written-appends, IsWritten}
 use Rattle.partition_queue.proofs.queue.PartitionQueue.append_slices.Goals as goal

@@ -1,6 +1,4 @@
-use Rattle.std.proofs.Common.{◌<◌, ◌∙◌, ap, sym, length, arith}
-use Rattle.std.proofs.lemmas.List.{get_or-map, length-map}
-use Rattle.stream_ident.specs.Event.{no_event}
+use Rattle.partition_queue.proofs.Prelude.{◌<◌, ◌∙◌, ap, sym, length, arith, get_or-map, length-map, no_event}
 use Rattle.queue_mapper.specs.Place.{bare}
 use Rattle.partition_queue.specs.Log.{event_of}
 use Rattle.partition_queue.proofs.queue.PartitionQueue.header_at.Goals as goal

@@ -1,5 +1,4 @@
-use Rattle.std.proofs.Common.{◌≡◌, ◌∙◌, ◌<◌, ap, length, get_or, rules}
-use Rattle.stream_ident.specs.Event.{batch_token}
+use Rattle.partition_queue.proofs.Prelude.{◌≡◌, ◌∙◌, ◌<◌, ap, length, get_or, rules, batch_token}
 use Rattle.partition_queue.specs.Log.{token_of}
 use Rattle.partition_queue.specs.Queue.{token_at}
 use Rattle.partition_queue.proofs.LogLemmas.{token_in}

@@ -1,4 +1,4 @@
-use Rattle.std.proofs.Common.{◌∙◌, length, arith, ap, sym}
+use Rattle.partition_queue.proofs.Prelude.{◌∙◌, length, arith, ap, sym}
 use Rattle.partition_queue.proofs.EventLemmas.{between_at, length-bare}
 use Rattle.partition_queue.proofs.span.Span.at.Goals as goal
 

@@ -1,4 +1,4 @@
-use Rattle.std.proofs.Common.{◌∙◌, length, arith, ap}
+use Rattle.partition_queue.proofs.Prelude.{◌∙◌, length, arith, ap}
 use Rattle.partition_queue.proofs.EventLemmas.{between_first, length-bare}
 use Rattle.partition_queue.proofs.span.Span.first.Goals as goal
 

@@ -1,4 +1,4 @@
-use Rattle.std.proofs.Common.{sym}
+use Rattle.partition_queue.proofs.Prelude.{sym}
 use Rattle.std.proofs.lemmas.List.Quantifiers.{position-Some}
 use Rattle.stream_ident.proofs.SameValues.{same_stream-equal}
 use Rattle.stream_ident.specs.Name.{same_stream}

@@ -1,6 +1,4 @@
-use Rattle.std.proofs.Common.{◌≡◌, ◌∙◌, ℕ, ◌+◌, ◌≤◌, List, [], ◌∷◌, ◌++◌, length, drop, ap, sym, subst, arith, length-append}
-use Rattle.std.proofs.lemmas.List.{take_at}
-use Rattle.std.specs.List.{insert}
+use Rattle.ranked_index.proofs.Prelude.{◌≡◌, ◌∙◌, ℕ, ◌+◌, ◌≤◌, List, [], ◌∷◌, ◌++◌, length, drop, ap, sym, subst, arith, length-append, take_at, insert}
 use Rattle.ranked_index.specs.Ranking.{IsRanking}
 use Rattle.ranked_index.proofs.RankLemmas.{ranking_of, ranking-insert, ranks-insert}
 use Rattle.ranked_index.proofs.ranking.Ranking.insert.Goals as goal

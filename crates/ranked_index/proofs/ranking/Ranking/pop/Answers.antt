@@ -1,7 +1,4 @@
-use Rattle.std.proofs.Common.{◌≡◌, ◌∙◌, ℕ, ◌+◌, ◌-◌, ◌<◌, List, length, take, drop, ap, arith}
-use Rattle.std.proofs.lemmas.List.{get_or_default, take_at, length-take-le}
-use Rattle.std.specs.List.{remove}
-use Rattle.std.specs.Prelude.{slice_index, slice_index_or}
+use Rattle.ranked_index.proofs.Prelude.{◌≡◌, ◌∙◌, ℕ, ◌+◌, ◌-◌, ◌<◌, List, length, take, drop, ap, arith, get_or_default, take_at, length-take-le, remove, slice_index, slice_index_or}
 use Rattle.ranked_index.specs.Ranking.{AreRanks}
 use Rattle.ranked_index.proofs.RankLemmas.{ranking_of, ranking-remove, ranks-remove}
 use Rattle.ranked_index.proofs.ranking.Ranking.pop.Goals as goal

@@ -1,4 +1,4 @@
-use Rattle.std.proofs.Common.{◌∙◌, ◌+◌, ◌-◌, ◌≤◌, Some, false, length, ap, arith}
+use Rattle.ranked_index.proofs.Prelude.{◌∙◌, ◌+◌, ◌-◌, ◌≤◌, Some, false, length, ap, arith}
 use Rattle.ranked_index.specs.Leaves.{open_leaf, with_leaves, PlainResumes}
 use Rattle.ranked_index.specs.Ranks.{leaves_by}
 use Rattle.ranked_index.proofs.LeafRows.{is_leaf, kept-again, kept-filled, view-is}

@@ -1,4 +1,4 @@
-use Rattle.std.proofs.Common.{◌∙◌, map, ap}
+use Rattle.ranked_index.proofs.Prelude.{◌∙◌, map, ap}
 use Rattle.ranked_index.specs.Leaves.{least_resume, no_leaf}
 use Rattle.ranked_index.specs.Ranks.{leaves_by, resume_key}
 use Rattle.ranked_index.specs.Tree.{key_in}

@@ -1,4 +1,4 @@
-use Rattle.std.proofs.Common.{◌≡◌, ◌∙◌, ◌+◌, ◌-◌, length, take, ap, sym, arith}
+use Rattle.ranked_index.proofs.Prelude.{◌≡◌, ◌∙◌, ◌+◌, ◌-◌, length, take, ap, sym, arith}
 use Rattle.ranked_index.specs.Leaves.{truncated, PlainResumes}
 use Rattle.ranked_index.specs.Ranks.{leaves_by}
 use Rattle.ranked_index.proofs.BelowLemmas.{below-last}

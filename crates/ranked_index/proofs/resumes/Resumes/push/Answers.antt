@@ -1,5 +1,4 @@
-use Rattle.std.proofs.Common.{◌≡◌, ◌∙◌, ◌≤◌, List, Some, false, length, ap, arith}
-use Rattle.std.specs.List.{remove}
+use Rattle.ranked_index.proofs.Prelude.{◌≡◌, ◌∙◌, ◌≤◌, List, Some, false, length, ap, arith, remove}
 use Rattle.ranked_index.specs.declared.tree.Node.{Node}
 use Rattle.ranked_index.proofs.RankLemmas.{remove-insert}
 use Rattle.ranked_index.specs.Leaves.{open_leaf, pushed, PlainResumes}

@@ -1,4 +1,4 @@
-use Rattle.std.proofs.Common.{◌∙◌, ◌<◌, length, ap, arith}
+use Rattle.ranked_index.proofs.Prelude.{◌∙◌, ◌<◌, length, ap, arith}
 use Rattle.ranked_index.specs.Leaves.{leaf_with, with_leaf, PlainResumes}
 use Rattle.ranked_index.specs.Ranks.{leaves_by}
 use Rattle.ranked_index.proofs.LeafRows.{is_leaf, kept-again, kept-set, view-is}

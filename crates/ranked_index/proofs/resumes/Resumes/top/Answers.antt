@@ -1,6 +1,4 @@
-use Rattle.std.proofs.Common.{◌∙◌, Some, ap}
-use Rattle.std.specs.Option.{option_map}
-use Rattle.std.specs.Prelude.{slice_index}
+use Rattle.ranked_index.proofs.Prelude.{◌∙◌, Some, ap, option_map, slice_index}
 use Rattle.ranked_index.specs.Leaves.{top}
 use Rattle.ranked_index.specs.Ranks.{leaves_by}
 use Rattle.ranked_index.proofs.LeafRows.{top-ranked}

@@ -1,4 +1,4 @@
-use Rattle.std.proofs.Common.{◌∙◌, ◌-◌, length, ap, sym, arith}
+use Rattle.ranked_index.proofs.Prelude.{◌∙◌, ◌-◌, length, ap, sym, arith}
 use Rattle.ranked_index.specs.Leaves.{truncated}
 use Rattle.ranked_index.proofs.BelowLemmas.{truncated-all, truncated-twice}
 use Rattle.ranked_index.proofs.resumes.Resumes.truncate.Goals as goal

@@ -1,4 +1,4 @@
-use Rattle.std.proofs.Common.{◌≡◌, length}
+use Rattle.ranked_index.proofs.Prelude.{◌≡◌, length}
 use Rattle.ranked_index.specs.Leaves.{truncated}
 use Rattle.ranked_index.proofs.resumes.Resumes.truncate.Given as goal
 

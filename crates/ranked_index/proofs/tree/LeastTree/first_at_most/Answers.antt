@@ -1,4 +1,4 @@
-use Rattle.std.proofs.Common.{◌≡◌, ◌+◌, ◌-◌, List, length, map, min, ap, ◌∙◌, sym, arith}
+use Rattle.ranked_index.proofs.Prelude.{◌≡◌, ◌+◌, ◌-◌, List, length, map, min, ap, ◌∙◌, sym, arith}
 use Rattle.ranked_index.specs.Keys.{first_at_most}
 use Rattle.ranked_index.specs.declared.tree.Node.{Node}
 use Rattle.ranked_index.specs.Tree.{key_in, no_key, number_at, AreGreater}

@@ -1,4 +1,4 @@
-use Rattle.std.proofs.Common.{◌≡◌, ◌+◌, length, subst, arith}
+use Rattle.ranked_index.proofs.Prelude.{◌≡◌, ◌+◌, length, subst, arith}
 use Rattle.ranked_index.specs.Tree.{IsPowerOfTwo}
 use Rattle.ranked_index.proofs.Doubled.{power_of-first, power_of-twice}
 use Rattle.ranked_index.proofs.tree.LeastTree.insert.Goals as goal

@@ -1,5 +1,4 @@
-use Rattle.std.proofs.Common.{◌≡◌, ◌<◌, ◌∙◌, List, length, map, ap, sym, arith}
-use Rattle.std.proofs.lemmas.Bool.{ltb-true}
+use Rattle.ranked_index.proofs.Prelude.{◌≡◌, ◌<◌, ◌∙◌, List, length, map, ap, sym, arith, ltb-true}
 use Rattle.std.proofs.lemmas.Grind.{common_steps}
 use Rattle.ranked_index.specs.Keys.{least_key}
 use Rattle.ranked_index.specs.Tree.{key_in, node_at}

@@ -1,6 +1,5 @@
+use Rattle.shared_partition.proofs.Prelude.{kept-step, one_history-from}
 use Rattle.shared_partition.specs.Partitions.{after, replied}
-use Rattle.stream_laws.proofs.KeptStep.{kept-step}
-use Rattle.stream_laws.proofs.LawsOfHistories.{one_history-from}
 use Rattle.shared_partition.proofs.Legal.{seen-legal}
 use Rattle.shared_partition.proofs.Partitions.{legal-leaves, legal-tells}
 use Rattle.shared_partition.proofs.partition.SharedPartition.call.Goals as goal

@@ -1,5 +1,4 @@
-use Rattle.stream_laws.proofs.KeptStep.{kept-step}
-use Rattle.stream_laws.proofs.LawsOfHistories.{one_history-from}
+use Rattle.shared_partition.proofs.Prelude.{kept-step, one_history-from}
 use Rattle.shared_partition.proofs.Partitions.{looked-leaves, looked-tells}
 use Rattle.shared_partition.proofs.partition.SharedPartition.figures_by.Goals as goal
 

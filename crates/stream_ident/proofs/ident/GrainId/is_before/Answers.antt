@@ -1,4 +1,4 @@
-use Rattle.std.proofs.Common.{◌∙◌}
+use Rattle.stream_ident.proofs.Prelude.{◌∙◌}
 use Rattle.stream_ident.proofs.OrderLemmas.{grain_before}
 use Rattle.stream_ident.proofs.ident.GrainId.is_before.Goals as goal
 

@@ -1,4 +1,4 @@
-use Rattle.std.proofs.Common.{sym}
+use Rattle.stream_ident.proofs.Prelude.{sym}
 use Rattle.stream_ident.specs.declared.limits.TheConstants.{NAME_BYTES}
 use Rattle.stream_ident.proofs.NameLemmas.{IsName-from_right, IsPadded-from_row}
 use Rattle.stream_ident.proofs.ident.Name.new.Goals as goal

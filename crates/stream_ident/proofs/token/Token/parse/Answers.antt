@@ -1,4 +1,4 @@
-use Rattle.std.proofs.Common.{arith, rules}
+use Rattle.stream_ident.proofs.Prelude.{arith, rules}
 use Rattle.std.proofs.lemmas.Grind.{common_steps}
 use Rattle.stream_ident.proofs.TokenLemmas.{token_found, token_refused}
 use Rattle.stream_ident.proofs.token.Token.parse.Goals as goal

@@ -1,6 +1,4 @@
-use Rattle.std.proofs.Common.{◌<◌, ◌∙◌, Err, arith, length}
-use Rattle.std.proofs.lemmas.Result.{err_from_is_err_and}
-use Rattle.stream_model.specs.declared.op.Op.TheVariants.{AddRule}
+use Rattle.streams.proofs.Prelude.{◌<◌, ◌∙◌, Err, arith, length, err_from_is_err_and, AddRule}
 use Rattle.silo_threads.proofs.Looking.{turnstiles-length}
 use Rattle.streams.proofs.Telling.{tells-next, tells-refused}
 use Rattle.streams.proofs.service.Service.add_rule.Goals as goal

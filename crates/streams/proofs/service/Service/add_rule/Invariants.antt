@@ -1,7 +1,4 @@
-use Rattle.std.proofs.Common.{◌≡◌, ◌-◌, Bool, List, Result, length}
-use Rattle.stream_model.specs.declared.op.Op.TheVariants.{AddRule}
-use Rattle.silo_loops.specs.Lines.{QueuePass}
-use Rattle.silo_threads.specs.Calls.{turnstiles}
+use Rattle.streams.proofs.Prelude.{QueuePass, turnstiles, ◌≡◌, ◌-◌, Bool, List, Result, length, AddRule}
 use Rattle.streams.specs.declared.answers.CallError.{CallError}
 use Rattle.streams.specs.Services.{AddsRule, TellsRule}
 use Rattle.streams.proofs.service.Service.add_rule.Given as goal

@@ -1,6 +1,5 @@
-use Rattle.std.proofs.Common.{◌++◌, List, [], ◌∷◌, inl, subst}
+use Rattle.streams.proofs.Prelude.{QueuePass, ◌++◌, List, [], ◌∷◌, inl, subst}
 use Rattle.turnstile.specs.Recorded.{recorded}
-use Rattle.silo_loops.specs.Lines.{QueuePass}
 use Rattle.silo_threads.specs.Clusters.{HasFinished}
 use Rattle.streams.specs.Services.{Closes, ServiceView, calls_of}
 use Rattle.streams.proofs.service.Service.close.Goals as goal

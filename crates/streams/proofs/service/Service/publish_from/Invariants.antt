@@ -1,5 +1,4 @@
-use Rattle.std.proofs.Common.{◌≡◌}
-use Rattle.silo_threads.specs.Calls.{turnstiles}
+use Rattle.streams.proofs.Prelude.{turnstiles, ◌≡◌}
 use Rattle.streams.specs.Settling.{PublishesSome}
 use Rattle.streams.proofs.service.Service.publish_from.Given as goal
 

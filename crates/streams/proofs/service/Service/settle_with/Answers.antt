@@ -1,5 +1,4 @@
-use Rattle.std.proofs.Common.{◌≡◌, ◌∙◌, ◌+◌, ◌-◌, ℕ, suc, Ok, Err, ap, arith, inl, inr, refl, subst}
-use Rattle.std.proofs.lemmas.Result.{err_from_is_err_and}
+use Rattle.streams.proofs.Prelude.{◌≡◌, ◌∙◌, ◌+◌, ◌-◌, ℕ, suc, Ok, Err, ap, arith, inl, inr, refl, subst, err_from_is_err_and}
 use Rattle.silo_threads.specs.Clusters.{ClusterView}
 use Rattle.streams.specs.declared.answers.SettleError.TheVariants as settle
 use Rattle.streams.specs.Services.{ServiceView}

@@ -1,4 +1,4 @@
-use Rattle.std.proofs.Common.{◌∙◌, sym}
+use Rattle.streams.proofs.Prelude.{◌∙◌, sym}
 use Rattle.silo_threads.proofs.Places.{down-places}
 use Rattle.streams.proofs.service.Service.silo_down.Goals as goal
 

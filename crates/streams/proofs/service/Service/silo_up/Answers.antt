@@ -1,4 +1,4 @@
-use Rattle.std.proofs.Common.{◌∙◌, sym}
+use Rattle.streams.proofs.Prelude.{◌∙◌, sym}
 use Rattle.silo_threads.proofs.Places.{up-places}
 use Rattle.streams.proofs.service.Service.silo_up.Goals as goal
 

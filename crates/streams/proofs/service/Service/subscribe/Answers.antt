@@ -1,6 +1,4 @@
-use Rattle.std.proofs.Common.{◌≡◌, ℕ, List, Some, None, ap, inl, subst}
-use Rattle.stream_model.specs.declared.op.Op.TheVariants.{Subscribe}
-use Rattle.silo_loops.specs.Lines.{QueuePass}
+use Rattle.streams.proofs.Prelude.{QueuePass, ◌≡◌, ℕ, List, Some, None, ap, inl, subst, Subscribe}
 use Rattle.streams.specs.Answers as read
 use Rattle.streams.specs.Services.{ReadsBehind, SeesNext, ServiceView}
 use Rattle.streams.proofs.service.Service.subscribe.Goals as goal

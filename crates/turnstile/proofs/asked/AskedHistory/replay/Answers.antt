@@ -1,4 +1,4 @@
-use Rattle.std.proofs.Common.{◌≡◌, ◌∙◌, arith, ap, get_or, length}
+use Rattle.turnstile.proofs.Prelude.{◌≡◌, ◌∙◌, arith, ap, get_or, length}
 use Rattle.turnstile.specs.Recorded.{recorded}
 use Rattle.turnstile.proofs.Answering.{again_done, again_all}
 use Rattle.turnstile.proofs.asked.AskedHistory.replay.Goals as goal

@@ -1,4 +1,4 @@
-use Rattle.std.proofs.Common.{◌≡◌, ◌∙◌, rules, length, sym}
+use Rattle.turnstile.proofs.Prelude.{◌≡◌, ◌∙◌, rules, length, sym}
 use Rattle.turnstile.specs.Recorded.{recorded}
 use Rattle.turnstile.proofs.Answering.{length-answered}
 use Rattle.turnstile.proofs.asked.AskedHistoryStoredHistory.len.Goals as goal

@@ -1,4 +1,4 @@
-use Rattle.std.proofs.Common.{subst, ap, ◌∙◌}
+use Rattle.turnstile.proofs.Prelude.{subst, ap, ◌∙◌}
 use Rattle.turnstile.specs.Calls.{outside, Agree}
 use Rattle.turnstile.proofs.handle.Handle.join.Goals as goal
 

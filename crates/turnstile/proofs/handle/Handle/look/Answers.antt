@@ -1,4 +1,4 @@
-use Rattle.std.proofs.Common.{◌≡◌, refl}
+use Rattle.turnstile.proofs.Prelude.{◌≡◌, refl}
 use Rattle.std.specs.Arc.{arc_value}
 use Rattle.std.specs.Fn.{FnOnceReturnsAt}
 use Rattle.turnstile.proofs.Handles.{looks-held}

@@ -1,4 +1,4 @@
-use Rattle.std.proofs.Common.{rules}
+use Rattle.turnstile.proofs.Prelude.{rules}
 use Rattle.turnstile.specs.Turns.{start_of}
 use Rattle.turnstile.proofs.Phases.{slot_here, slot_full, begun}
 use Rattle.turnstile.proofs.lock.Lock.begin.Goals as goal

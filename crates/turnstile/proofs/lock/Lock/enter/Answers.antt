@@ -1,4 +1,4 @@
-use Rattle.std.proofs.Common.{◌∙◌, rules, arith}
+use Rattle.turnstile.proofs.Prelude.{◌∙◌, rules, arith}
 use Rattle.turnstile.specs.Turns.{start_of}
 use Rattle.turnstile.proofs.Keeps.{draws}
 use Rattle.turnstile.proofs.Phases.{may_look, its_turn, not_yet}

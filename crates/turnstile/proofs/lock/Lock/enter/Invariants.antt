@@ -1,4 +1,4 @@
-use Rattle.std.proofs.Common.{◌≡◌}
+use Rattle.turnstile.proofs.Prelude.{◌≡◌}
 use Rattle.turnstile.proofs.lock.Lock.enter.Given as goal
 
 -- while it waits, the seat is as it was once the ticket was drawn

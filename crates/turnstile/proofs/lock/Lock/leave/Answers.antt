@@ -1,4 +1,4 @@
-use Rattle.std.proofs.Common.{arith, ◌∙◌}
+use Rattle.turnstile.proofs.Prelude.{arith, ◌∙◌}
 use Rattle.turnstile.proofs.Phases.{may_leave, has_left}
 use Rattle.turnstile.proofs.lock.Lock.leave.Goals as goal
 

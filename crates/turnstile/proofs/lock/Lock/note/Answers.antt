@@ -1,4 +1,4 @@
-use Rattle.std.proofs.Common.{◌-◌, ap, ◌∙◌, length, arith, length-append, ◌∷◌, []}
+use Rattle.turnstile.proofs.Prelude.{◌-◌, ap, ◌∙◌, length, arith, length-append, ◌∷◌, []}
 use Rattle.turnstile.proofs.Keeps.{notes}
 use Rattle.turnstile.proofs.lock.Lock.note.Goals as goal
 

@@ -1,4 +1,4 @@
-use Rattle.std.proofs.Common.{◌∙◌, sym}
+use Rattle.turnstile.proofs.Prelude.{◌∙◌, sym}
 use Rattle.turnstile.specs.Recorded.{recorded}
 use Rattle.turnstile.proofs.Answering.{length-answered}
 use Rattle.turnstile.proofs.recorded.ProofHistoryStoredHistory.len.Goals as goal

@@ -1,4 +1,4 @@
-use Rattle.std.proofs.Common.{◌∙◌, sym}
+use Rattle.turnstile.proofs.Prelude.{◌∙◌, sym}
 use Rattle.turnstile.specs.Recorded.{recorded, answered}
 use Rattle.turnstile.proofs.Answering.{answered-snoc}
 use Rattle.turnstile.proofs.recorded.ProofHistoryStoredHistory.push.Goals as goal

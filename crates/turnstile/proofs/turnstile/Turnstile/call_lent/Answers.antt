@@ -1,4 +1,4 @@
-use Rattle.std.proofs.Common.{rules, ◌≡◌, ◌<◌, length, Some, refl}
+use Rattle.turnstile.proofs.Prelude.{rules, ◌≡◌, ◌<◌, length, Some, refl}
 use Rattle.turnstile.specs.Plays.{Applied}
 use Rattle.turnstile.specs.Turns.{start_of}
 use Rattle.turnstile.proofs.Phases.{applied, noted_view, turn_noted}

@@ -1,4 +1,4 @@
-use Rattle.std.proofs.Common.{arith}
+use Rattle.turnstile.proofs.Prelude.{arith}
 use Rattle.turnstile.proofs.Keeps.{counts}
 use Rattle.turnstile.proofs.Phases.{seated}
 use Rattle.turnstile.proofs.turnstile.Turnstile.count.Goals as goal

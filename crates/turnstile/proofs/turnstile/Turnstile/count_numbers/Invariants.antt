@@ -1,4 +1,4 @@
-use Rattle.std.proofs.Common.{◌≡◌, length, min, take}
+use Rattle.turnstile.proofs.Prelude.{◌≡◌, length, min, take}
 use Rattle.turnstile.specs.Closing.{all_numbers}
 use Rattle.turnstile.proofs.turnstile.Turnstile.count_numbers.Given as goal
 

@@ -1,4 +1,4 @@
-use Rattle.std.proofs.Common.{◌≡◌, ◌≤◌, ◌∙◌, rules, arith, length, ap}
+use Rattle.turnstile.proofs.Prelude.{◌≡◌, ◌≤◌, ◌∙◌, rules, arith, length, ap}
 use Rattle.turnstile.specs.Calls.{numbers_of}
 use Rattle.turnstile.specs.Closing.{IsTrace}
 use Rattle.turnstile.specs.Turns.{start_of}

@@ -1,4 +1,4 @@
-use Rattle.std.proofs.Common.{rules}
+use Rattle.turnstile.proofs.Prelude.{rules}
 use Rattle.std.proofs.lemmas.List.{nil_from_length}
 use Rattle.turnstile.specs.Calls.{IsOf}
 use Rattle.turnstile.proofs.Gathering.{all_front, all_last, taken_first, taken_more, taken_all}

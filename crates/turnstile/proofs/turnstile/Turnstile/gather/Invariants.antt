@@ -1,4 +1,4 @@
-use Rattle.std.proofs.Common.{All, vec_len}
+use Rattle.turnstile.proofs.Prelude.{All, vec_len}
 use Rattle.turnstile.specs.Calls.{IsOf}
 use Rattle.turnstile.proofs.Gathering.{Taken}
 use Rattle.turnstile.proofs.turnstile.Turnstile.gather.Given as goal

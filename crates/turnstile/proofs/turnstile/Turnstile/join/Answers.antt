@@ -1,4 +1,4 @@
-use Rattle.std.proofs.Common.{rules, arith, ◌∙◌}
+use Rattle.turnstile.proofs.Prelude.{rules, arith, ◌∙◌}
 use Rattle.turnstile.proofs.Joining.{agree}
 use Rattle.turnstile.proofs.Keeps.{joins, tells}
 use Rattle.turnstile.proofs.Phases.{seated}

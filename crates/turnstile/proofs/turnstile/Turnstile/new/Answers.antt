@@ -1,4 +1,4 @@
-use Rattle.std.proofs.Common.{rules}
+use Rattle.turnstile.proofs.Prelude.{rules}
 use Rattle.turnstile.proofs.Keeps.{makes}
 use Rattle.turnstile.proofs.turnstile.Turnstile.new.Goals as goal
 

@@ -1,4 +1,4 @@
-use Rattle.std.proofs.Common.{rules, arith, ap}
+use Rattle.turnstile.proofs.Prelude.{rules, arith, ap}
 use Rattle.turnstile.proofs.Keeps.{splits, draws_first, joins_back, tells}
 use Rattle.turnstile.proofs.Phases.{seated}
 use Rattle.turnstile.proofs.turnstile.Turnstile.split.Goals as goal

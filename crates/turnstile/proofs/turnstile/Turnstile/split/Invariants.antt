@@ -1,4 +1,4 @@
-use Rattle.std.proofs.Common.{◌≡◌, ◌≤◌, ◌-◌, []}
+use Rattle.turnstile.proofs.Prelude.{◌≡◌, ◌≤◌, ◌-◌, []}
 use Rattle.turnstile.specs.Turns.{unnumbered}
 use Rattle.turnstile.proofs.turnstile.Turnstile.split.Given as goal
 
