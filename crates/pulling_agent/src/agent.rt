@@ -1,9 +1,6 @@
 //! The agent.
-ghost use Rattle.std.specs.Prelude.{◌≡◌, ◌+◌, ◌-◌, ◌*◌, ◌<◌, ◌≤◌, length, map, max, IfOk};
+ghost use Rattle.std.specs.Prelude.{◌≡◌, ◌+◌, ◌-◌, ◌*◌, ◌<◌, ◌≤◌, length, max, IfOk};
 ghost use Rattle.stream_ident.specs.declared.limits.TheConstants.{MOST_BLOCKS};
-ghost use Rattle.partition_queue.specs.Queue.{between};
-ghost use Rattle.queue_mapper.specs.Place.{bare};
-ghost use Rattle.queue_cache.specs.Cache.{high, room, with_events};
 ghost use Rattle.pulling_agent.specs.Agent.{check, drops, empty, free_blocks, if_current, plan_of, plan_pull, pull, purge, purge_free, take_next, take_over, take_planned, without_blocks, CanTake, MayTake};
 ghost use Rattle.stream_ident.specs.Blocks.{pull_size};
 
@@ -194,9 +191,12 @@ impl Agent {
     {
         let whole = (self.cache.high() - self.cache.low()) / BLOCK_EVENTS;
         drop_blocks(&mut self.cache, drops.min(whole));
-        let ahead = queue.len().saturating_sub(self.cache.high());
+        let high = self.cache.high();
+        let ahead = queue.len().saturating_sub(high);
         let count = count.min(self.cache.room()).min(ahead);
-        fill(&mut self.cache, queue, count);
+        if count > 0 {
+            self.cache.take(&queue.between(high, high + count));
+        }
         count
     }
 
@@ -274,18 +274,5 @@ fn drop_blocks(cache: &mut QueueCache, blocks: usize)
 {
     for _ in 0..blocks {
         cache.drop_front();
-    }
-}
-
-/// Takes the next `count` events of the log into a cache.
-fn fill(cache: &mut QueueCache, queue: &PartitionQueue, count: usize)
-    requires room { count ≤ room cache.old }
-    requires there { count ≤ length queue.now.events - high cache.old }
-    ensures { cache.new ≡ with_events cache.old (map bare (between queue.now (high cache.old) (high cache.old + count))) }
-{
-    for _ in 0..count {
-        let position = cache.high();
-        prove!(position < queue.len());
-        cache.take(&queue.header_at(position));
     }
 }

@@ -6,6 +6,7 @@ ghost use Rattle.queue_mapper.specs.Place.{tags_of};
 ghost use Rattle.queue_cache.specs.Cache.{empty, high, room, event_at, with_events, without_front, block_count, block_events};
 
 use circular_buffer::HeapCircularBuffer;
+use partition_queue::Span;
 use queue_mapper::{EventHeader, HeaderRef};
 use std::alloc::{AllocError, Global};
 use std::marker::Model;
@@ -161,8 +162,19 @@ impl QueueCache {
         self.len.div_ceil(BLOCK_EVENTS)
     }
 
-    /// Takes one event in at the end. Its names are copied into their block alone, and it takes no memory.
-    pub fn take(&mut self, header: &HeaderRef)
+    /// Takes events of a log in at the end. Their names are copied into their blocks alone, and it takes no memory.
+    pub fn take(&mut self, events: &Span)
+        requires room { length events.now ≤ room self.old }
+        requires positions { high self.old + length events.now < 2 ^ 64 }
+        ensures { self.new ≡ with_events self.old events.now }
+    {
+        for place in 0..events.len() {
+            self.push(&events.at(place));
+        }
+    }
+
+    /// Takes one event in at the end.
+    fn push(&mut self, header: &HeaderRef)
         requires room { 0 < room self.old }
         requires positions { high self.old + 1 < 2 ^ 64 }
         ensures { self.new ≡ with_events self.old (header.now ∷ []) }
