@@ -26,7 +26,7 @@ pub use Rattle.stream_model.specs.declared.op.Op.{Op}
 pub use Rattle.stream_model.specs.declared.plain.PlainPartition.{PlainPartition}
 pub use Rattle.turnstile.proofs.Histories.{foreign-append, legal_last, replay_snoc}
 pub use Rattle.turnstile.specs.Calls.{Agree, HasOnlyMade, HasOnlySeen, IsOf, IsSplitOff, joined_pass, numbers_of}
-pub use Rattle.turnstile.specs.Closing.{FirstCounted, FromAll, HasSome, all_numbers}
+pub use Rattle.turnstile.specs.Closing.{FromAll, HasSome, all_numbers}
 pub use Rattle.turnstile.specs.History.{Foreign, IsLegal, Own, entry, longer, replay}
 pub use Rattle.turnstile.specs.Passes.{Origin, PassView}
 pub use Rattle.turnstile.specs.declared.history.Entry.{Entry}
