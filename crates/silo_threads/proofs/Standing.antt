@@ -21,11 +21,8 @@ use Rattle.silo_threads.proofs.Rows.{all-at, zip-at, zip-both}
 use Rattle.silo_threads.proofs.Splitting.{split-unused}
 use Rattle.silo_threads.proofs.Spreading.{only-refl}
 use Rattle.silo_threads.proofs.Making.{goes-longer, last-earlier, made-earlier, made-since-silent}
-use Rattle.silo_threads.specs.Clusters.{AnswersDown, AnswersRetire, AnswersUp, AreAtQueues, AreFresh, AreStarted, ClusterView, HasAtMostCome, HasEnded, HasHalted, HasLeft, HasMetLimit, HasNoted, HaveComeBack, HaveEnded, HaveSeenNone, IsAtDirectory, IsBrokenOff, IsCluster, IsDownBy, IsEmptied, IsLimitedAt, IsOpened, IsRetiredBy, IsUpBy, MayGo, RunsOn, WereLeft, WereMoved, all_noted, is_fixed, none_ended, noted}
+use Rattle.silo_threads.specs.Clusters.{AreAtQueues, AreFresh, AreStarted, ClusterView, HasEnded, HasLeft, HasMetLimit, HasNoted, HaveComeBack, HaveEnded, HaveSeenNone, IsAtDirectory, IsCluster, IsEmptied, IsHaltedWith, IsLimitedAt, IsOpened, MayGo, RunsOn, WereLeft, WereMoved, all_noted, is_fixed, none_ended, noted}
 use Rattle.silo_threads.specs.declared.clusters.config.Config.{Config}
-use Rattle.silo_threads.specs.declared.clusters.cluster.Retired.{Retired}
-use Rattle.silo_threads.specs.declared.clusters.cluster.SiloDown.{SiloDown}
-use Rattle.silo_threads.specs.declared.clusters.cluster.SiloUp.{SiloUp}
 
 pub on_ok_both : {A E P Q R : Type 0} → (r : Result A E) → (P → Q → R) → OnOk r P → OnOk r Q → OnOk r R
 on_ok_both (Ok x) f p q = f p q
@@ -151,16 +148,11 @@ pub left-some : (live : List ℕ) (place : ℕ) → place < length live → 1 < 
 left-some live place within others none =
     omega (arith, others, length-remove live place within, ap (λ (xs : List ℕ). length xs) none)
 
--- how a change that was broken off is answered
-pub halted-up : (v w : ClusterView) (silo : ℕ) (h : Halt) (r : Result SiloUp AllocError) → IsUpBy h r → is_fixed v ≡ false → (Contains v.operator.live silo → ⊥) → HasHalted v w → (h ≡ halt.Limit → HasMetLimit v.operator w.operator) → w.ends ≡ v.ends → HasAtMostCome silo v.silos w.silos → AnswersUp v silo r w
-halted-up v w silo halt.Limit r is goes absent halted met ends others = subst (λ (x : Result SiloUp AllocError). AnswersUp v silo x w) (sym is) (goes, absent, halted, met refl, ends, others)
-halted-up v w silo halt.Memory (Ok x) is goes absent halted met ends others = absurd (cc (is))
-halted-up v w silo halt.Memory (Err e) is goes absent halted met ends others = (goes, absent, halted, ends, others)
-
-pub halted-down : (v w : ClusterView) (silo : ℕ) (h : Halt) (r : Result SiloDown AllocError) → IsDownBy h r → is_fixed v ≡ false → MayGo v silo → HasHalted v w → HasNoted v silo w → (h ≡ halt.Limit → HasMetLimit v.operator w.operator) → AnswersDown v silo r w
-halted-down v w silo halt.Limit r is goes may halted noted met = subst (λ (x : Result SiloDown AllocError). AnswersDown v silo x w) (sym is) (goes, may, halted, noted, met refl)
-halted-down v w silo halt.Memory (Ok x) is goes may halted noted met = absurd (cc (is))
-halted-down v w silo halt.Memory (Err e) is goes may halted noted met = (goes, may, halted, noted)
+-- what holds of both answers to a change that was broken off holds of the one that is given
+pub halted-so : {T : Type 0} (r : Result T AllocError) (limit : T) (P : Result T AllocError → Type 0) (h : Halt) → IsHaltedWith h limit r → (h ≡ halt.Limit → P (Ok limit)) → ((e : AllocError) → P (Err e)) → P r
+halted-so r limit P halt.Limit is met memory = subst P (sym is) (met refl)
+halted-so (Ok x) limit P halt.Memory is met memory = absurd (cc (is))
+halted-so (Err e) limit P halt.Memory is met memory = memory e
 
 -- Each grain that left since the first pass was deactivated: the passes in between made no call, and the lines went on.
 deactivated-from : (silo : ℕ) (d e f : DirectoryPass) (old new last later : List LineView) → IsSilent d e → GoesOn e f → GoOn old new → GoOn new last → GoOn last later → AreDeactivated silo e f new last → AreDeactivated silo d f old later
@@ -428,11 +420,6 @@ only-one (x ∷ y ∷ ys) silo lives one = absurd (omega (arith, one))
 -- what `retire` answers where the silo is the last
 pub last-stays : (v : ClusterView) (loops : SiloView) (many : ℕ) → v.is_halted ≡ false → (v.is_halted ≡ false → Contains v.operator.live loops.silo) → many ≡ length v.operator.live → many ≡ 1 → v.operator.live ≡ loops.silo ∷ []
 last-stays v loops many free lives count one = only-one v.operator.live loops.silo (lives free) (sym count ∙ one)
-
-pub halted-retire : {G H D : Type 0} (v w : ClusterView) (loops : SiloView) (h : Halt) (r : Result (Retired G H D) AllocError) → IsRetiredBy h r → IsBrokenOff v loops w → (h ≡ halt.Limit → HasMetLimit v.operator w.operator) → AnswersRetire v loops r w
-halted-retire {G = G} {H = H} {D = D} v w loops halt.Limit r is broken met = subst (λ (x : Result (Retired G H D) AllocError). AnswersRetire v loops x w) (sym is) (broken, met refl)
-halted-retire v w loops halt.Memory (Ok x) is broken met = absurd (cc (is))
-halted-retire v w loops halt.Memory (Err e) is broken met = broken
 
 -- ends of which each is of no loop
 pub ends-none : (e : LoopEnds) → e.memory ≡ false → e.limit ≡ false → e.rounds ≡ false → e ≡ none_ended

@@ -187,18 +187,10 @@ AnswersUp v silo (Ok up.Up) w = (is_fixed v ≡ false) × (¬ Contains v.operato
 AnswersUp v silo (Ok up.Limit) w = (is_fixed v ≡ false) × (¬ Contains v.operator.live silo) × HasHalted v w × HasMetLimit v.operator w.operator × (w.ends ≡ v.ends) × HasAtMostCome silo v.silos w.silos
 AnswersUp v silo (Err e) w = (is_fixed v ≡ false) × (¬ Contains v.operator.live silo) × HasHalted v w × (w.ends ≡ v.ends) × HasAtMostCome silo v.silos w.silos
 
--- how a change of silos that was broken off is answered
-abbrev pub IsUpBy : Halt → Result SiloUp AllocError → Type 0
-IsUpBy halt.Limit result = result ≡ Ok up.Limit
-IsUpBy halt.Memory result = IsErr result
-
-abbrev pub IsDownBy : Halt → Result SiloDown AllocError → Type 0
-IsDownBy halt.Limit result = result ≡ Ok down.Limit
-IsDownBy halt.Memory result = IsErr result
-
-abbrev pub IsRetiredBy : {G H D : Type 0} → Halt → Result (Retired G H D) AllocError → Type 0
-IsRetiredBy halt.Limit result = result ≡ Ok retired.Limit
-IsRetiredBy halt.Memory result = IsErr result
+-- how a change of silos that was broken off is answered, by what is answered where a limit was met
+abbrev pub IsHaltedWith : {T : Type 0} → Halt → T → Result T AllocError → Type 0
+IsHaltedWith halt.Limit limit result = result ≡ Ok limit
+IsHaltedWith halt.Memory limit result = IsErr result
 
 -- What is left once a silo went that stood at this place among those that live: no grain is left on it, each grain that
 -- was taken from it is deactivated at each queue, and the queues are spread anew. A queue that stays on its silo was moved

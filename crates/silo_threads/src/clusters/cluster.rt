@@ -7,7 +7,7 @@ ghost use Rattle.silo_loops.specs.Silos.{IsSiloAt};
 ghost use Rattle.silo_loops.specs.Lines.{places};
 ghost use Rattle.silo_threads.specs.Calls.{CallerCalls, CallerSplits};
 ghost use Rattle.silo_threads.specs.Gathering.{AreAt};
-ghost use Rattle.silo_threads.specs.Clusters.{AnswersDown, AnswersRetire, AnswersUp, HasFinished, HasFinishedParked, IsConfig, IsDownBy, IsNew, IsNewParked, IsRetiredBy, IsUpBy, RunsOn, is_fixed};
+ghost use Rattle.silo_threads.specs.Clusters.{AnswersDown, AnswersRetire, AnswersUp, HasFinished, HasFinishedParked, IsConfig, IsHaltedWith, IsNew, IsNewParked, RunsOn, is_fixed};
 
 use crate::callers::Caller;
 use crate::clusters::changes::{
@@ -87,32 +87,12 @@ pub struct Ended<G: Gate, H: QueueHistory, D: DirectoryHistory> {
     pub loops: Recorded<SiloLoops<G, H, D>>,
 }
 
-// How a change of silos that was broken off is answered.
-fn up_by(halt: Halt) -> Result<SiloUp, AllocError>
-    ensures { IsUpBy halt result }
+// How a change of silos that was broken off is answered, by what is answered where a limit was met.
+fn halted_with<T: Drop>(halt: Halt, limit: T) -> Result<T, AllocError>
+    ensures { IsHaltedWith halt limit result }
 {
     match halt {
-        Halt::Limit => Ok(SiloUp::Limit),
-        Halt::Memory => Err(AllocError),
-    }
-}
-
-fn down_by(halt: Halt) -> Result<SiloDown, AllocError>
-    ensures { IsDownBy halt result }
-{
-    match halt {
-        Halt::Limit => Ok(SiloDown::Limit),
-        Halt::Memory => Err(AllocError),
-    }
-}
-
-fn retired_by<G: Gate, H: QueueHistory, D: DirectoryHistory>(
-    halt: Halt,
-) -> Result<Retired<G, H, D>, AllocError>
-    ensures { IsRetiredBy halt result }
-{
-    match halt {
-        Halt::Limit => Ok(Retired::Limit),
+        Halt::Limit => Ok(limit),
         Halt::Memory => Err(AllocError),
     }
 }
@@ -237,7 +217,7 @@ impl<
             Ok(()) => Ok(SiloUp::Up),
             Err(halt) => {
                 self.halted = true;
-                up_by(halt)
+                halted_with(halt, SiloUp::Limit)
             }
         }
     }
@@ -333,7 +313,7 @@ impl<G: Gate, H: QueueHistory, D: DirectoryHistory> Cluster<G, H, D> {
                 self.halted = true;
                 // A queue of the silo may have no agent now: whoever waits until all is quiet is told.
                 self.operator.doorbell().end(rt);
-                down_by(halt)
+                halted_with(halt, SiloDown::Limit)
             }
         }
     }
@@ -433,7 +413,7 @@ impl<G: Gate, H: QueueHistory, D: DirectoryHistory> Cluster<G, H, D> {
             Ok(()) => Ok(Retired::Down),
             Err(halt) => {
                 self.halted = true;
-                retired_by(halt)
+                halted_with(halt, Retired::Limit)
             }
         }
     }

@@ -1,6 +1,7 @@
 use Rattle.silo_threads.proofs.Prelude.{IsSiloAt, SiloView, Some, arith, ap, length, refl, subst, sym, true, ◌∙◌, slice_get_within}
-use Rattle.silo_threads.specs.Clusters.{AnswersRetire, ClusterView, IsRetired}
-use Rattle.silo_threads.proofs.Standing.{halted-retire, last-stays, may-go, parked-stays}
+use Rattle.silo_threads.specs.Clusters.{AnswersRetire, ClusterView, IsBrokenOff, IsRetired}
+use Rattle.silo_threads.specs.declared.clusters.cluster.Retired.TheVariants as retired
+use Rattle.silo_threads.proofs.Standing.{halted-so, last-stays, may-go, parked-stays}
 use Rattle.silo_threads.proofs.clusters.cluster.Cluster.retire.Goals as goal
 
 pub leave-requires-clause-place : goal.leave-requires-clause-place
@@ -49,5 +50,6 @@ returns-in-Err g c =
     let w : ClusterView = record { operator = c.leave.new.operator; silos = c.self.inside.silos.items; ends = c.note_ends-self-inside.result; is_parked = c.self.inside.parked; is_halted = true; rounds = c.self.inside.rounds; looks = c.self.inside.looks } in
     let here = c.in-Some.ensures ∙ ap (λ (s : SiloView). Some s.silo) c.loops.view_is in
     let may = may-go v c.in-Some.place c.args.loops.silo here (λ one. c.if-live_count-eq1.false (c.live_count.ensures ∙ one)) in
-    subst (λ (u : ClusterView). AnswersRetire u c.args.loops c.retired_by.result w) c.self.view_is
-    (halted-retire v w c.args.loops c.in-Err.halt c.retired_by.result c.retired_by.ensures (c.if-self.false, may, record { on = c.leave.ensures.on; assignment = c.in-Err.ensures.kept; same = (refl, refl, refl); halted = refl }, (c.note_ends-self-inside.ensures.noted, record { taken = c.leave.ensures.taken; causes = c.note_ends-self-inside.ensures.causes })) c.in-Err.ensures.limit)
+    let broken : IsBrokenOff v c.args.loops w = (c.if-self.false, may, record { on = c.leave.ensures.on; assignment = c.in-Err.ensures.kept; same = (refl, refl, refl); halted = refl }, (c.note_ends-self-inside.ensures.noted, record { taken = c.leave.ensures.taken; causes = c.note_ends-self-inside.ensures.causes })) in
+    subst (λ (u : ClusterView). AnswersRetire u c.args.loops c.halted_with.result w) c.self.view_is
+    (halted-so c.halted_with.result retired.Limit (λ r. AnswersRetire v c.args.loops r w) c.in-Err.halt c.halted_with.ensures (λ is. (broken, c.in-Err.ensures.limit is)) (λ e. broken))

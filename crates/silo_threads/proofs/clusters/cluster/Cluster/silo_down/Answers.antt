@@ -1,7 +1,8 @@
-use Rattle.silo_threads.proofs.Prelude.{SiloView, ◌≡◌, Ok, false, Some, ℕ, arith, ap, refl, subst, sym, true, ◌∙◌, slice_get_within}
-use Rattle.silo_threads.specs.Clusters.{AnswersDown, ClusterView, HasLeft, IsEmptied}
+use Rattle.silo_threads.proofs.Prelude.{AllocError, SiloView, ◌≡◌, Ok, Result, false, Some, ℕ, arith, ap, refl, subst, sym, true, ◌∙◌, slice_get_within}
+use Rattle.silo_threads.specs.Clusters.{AnswersDown, ClusterView, HasHalted, HasLeft, IsEmptied}
+use Rattle.silo_threads.specs.declared.clusters.cluster.SiloDown.{SiloDown}
 use Rattle.silo_threads.specs.declared.clusters.cluster.SiloDown.TheVariants as down
-use Rattle.silo_threads.proofs.Standing.{back-at, cluster-gone, halted-down, has-noted, may-go, not-fixed, place-within, silo-place}
+use Rattle.silo_threads.proofs.Standing.{back-at, cluster-gone, halted-so, has-noted, may-go, not-fixed, place-within, silo-place}
 use Rattle.silo_threads.proofs.clusters.cluster.Cluster.silo_down.Goals as goal
 
 pub leave-requires-clause-place : goal.leave-requires-clause-place
@@ -57,5 +58,7 @@ returns-in-Err g c =
     let may = may-go v c.in-Some.place c.args.silo c.in-Some.ensures (λ one. c.if-live_count-eq1.false (c.live_count.ensures ∙ one)) in
     let found = has-noted v w c.in-Some.place c.args.silo c.remove-running.result c.stop-loops.result fixed c.self.invariant c.in-Some.ensures c.remove-running.ensures.value c.remove-running.ensures.items c.stop-loops.ensures
     (record { taken = c.leave.ensures.taken; causes = c.note_ends-self-inside.ensures.causes }) c.note_ends-self-inside.ensures.noted in
-    subst (λ (u : ClusterView). AnswersDown u c.args.silo c.down_by.result w) c.self.view_is
-    (halted-down v w c.args.silo c.in-Err.halt c.down_by.result c.down_by.ensures fixed may (record { on = c.leave.ensures.on; assignment = c.in-Err.ensures.kept; same = (refl, refl, refl); halted = refl }) found.1.0 c.in-Err.ensures.limit)
+    let halted : HasHalted v w = record { on = c.leave.ensures.on; assignment = c.in-Err.ensures.kept; same = (refl, refl, refl); halted = refl } in
+    subst (λ (u : ClusterView). AnswersDown u c.args.silo c.halted_with.result w) c.self.view_is
+    (halted-so c.halted_with.result down.Limit (λ (r : Result SiloDown AllocError). AnswersDown v c.args.silo r w) c.in-Err.halt c.halted_with.ensures
+    (λ is. (fixed, may, halted, found.1.0, c.in-Err.ensures.limit is)) (λ e. (fixed, may, halted, found.1.0)))

@@ -1,7 +1,8 @@
-use Rattle.silo_threads.proofs.Prelude.{IsFresh, Ok, refl, subst, true}
-use Rattle.silo_threads.specs.Clusters.{AnswersUp, ClusterView}
+use Rattle.silo_threads.proofs.Prelude.{AllocError, IsFresh, Ok, Result, refl, subst, true}
+use Rattle.silo_threads.specs.Clusters.{AnswersUp, ClusterView, HasHalted}
+use Rattle.silo_threads.specs.declared.clusters.cluster.SiloUp.{SiloUp}
 use Rattle.silo_threads.specs.declared.clusters.cluster.SiloUp.TheVariants as up
-use Rattle.silo_threads.proofs.Standing.{cluster-came, halted-up, not-fixed}
+use Rattle.silo_threads.proofs.Standing.{cluster-came, halted-so, not-fixed}
 use Rattle.silo_threads.proofs.clusters.cluster.Cluster.silo_up.Goals as goal
 
 pub invariant_of-self : goal.invariant_of-self
@@ -25,6 +26,8 @@ pub returns-in-Err : goal.returns-in-Err
 returns-in-Err g c =
     let v : ClusterView = record { operator = c.self.inside.operator; silos = c.self.inside.silos.items; ends = c.self.inside.ends; is_parked = c.self.inside.parked; is_halted = c.self.inside.halted; rounds = c.self.inside.rounds; looks = c.self.inside.looks } in
     let w : ClusterView = record { operator = c.bring_up.new.operator; silos = c.bring_up.new.silos.items; ends = c.self.inside.ends; is_parked = c.self.inside.parked; is_halted = true; rounds = c.self.inside.rounds; looks = c.self.inside.looks } in
-    subst (λ (u : ClusterView). AnswersUp u c.args.silo c.up_by.result w) c.self.view_is
-    (halted-up v w c.args.silo c.in-Err.halt c.up_by.result c.up_by.ensures (not-fixed v c.if-self.false c.if-self-2.false) c.in-None.ensures
-    (record { on = c.bring_up.ensures.on; assignment = c.in-Err.ensures.kept; same = (refl, refl, refl); halted = refl }) c.in-Err.ensures.limit refl c.bring_up.ensures.others)
+    let fixed = not-fixed v c.if-self.false c.if-self-2.false in
+    let halted : HasHalted v w = record { on = c.bring_up.ensures.on; assignment = c.in-Err.ensures.kept; same = (refl, refl, refl); halted = refl } in
+    subst (λ (u : ClusterView). AnswersUp u c.args.silo c.halted_with.result w) c.self.view_is
+    (halted-so c.halted_with.result up.Limit (λ (r : Result SiloUp AllocError). AnswersUp v c.args.silo r w) c.in-Err.halt c.halted_with.ensures
+    (λ is. (fixed, c.in-None.ensures, halted, c.in-Err.ensures.limit is, refl, c.bring_up.ensures.others)) (λ e. (fixed, c.in-None.ensures, halted, refl, c.bring_up.ensures.others)))
