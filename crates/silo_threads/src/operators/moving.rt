@@ -23,8 +23,7 @@ fn move_queue<G: Gate, H: QueueHistory, R: Wait>(
     from: u8,
     to: u8,
 ) -> Result<(), Halt>
-    ensures on { LineGoesOn line.old line.new }
-    ensures seen { LineHasOnlySeen line.old line.new }
+    ensures kept { LineGoesOn line.old line.new × LineHasOnlySeen line.old line.new }
     ensures moved { OnOk result (IsAtSilo from to line.old line.new) }
     ensures unmoved { IfErr result (λ why. to ≢ from × IsUnmoved why to line.old line.new) }
 {

@@ -1,4 +1,4 @@
-use Rattle.silo_threads.proofs.Prelude.{after, replied, CallsOn, ◌≢◌, ◌∙◌, Ok, refl, subst, sym, Reply}
+use Rattle.silo_threads.proofs.Prelude.{after, replied, on-refl, CallsOn, ◌≢◌, ◌∙◌, Ok, refl, subst, sym, Reply}
 use Rattle.stream_model.specs.declared.op.Op.TheVariants as op
 use Rattle.silo_threads.specs.declared.operators.halt.Halt.{Halt}
 use Rattle.silo_threads.specs.Changes.{IsUnmoved, halt_of}
@@ -28,23 +28,14 @@ returns-clause-unmoved g c =
     let spent = spent-reply c.in_ok-answer.answer (subst MovesOrSpent (sym gets.1) (move-replies gets.0 c.args.to)) (sym c.moved_of.ensures ∙ c.in-None.is) in
     ((λ same. c.if-from-to.false (sym same)), unmoved-spent c.args.line.now c.args.to c.call.new.self (subst (λ (r : Reply). CallsOn c.args.line.now (op.Move c.args.to) (Ok r) c.call.new.self) spent calls))
 
-pub returns-in_err-answer-clause-on : goal.returns-in_err-answer-clause-on
-returns-in_err-answer-clause-on g c = goes-called replied after c.args.line.now.pass _ c.call.result c.call.new.self.pass c.call.ensures.call
+pub returns-then-from-to-clause-kept : goal.returns-then-from-to-clause-kept
+returns-then-from-to-clause-kept g c = (on-refl c.args.line.now.pass, refl, refl)
 
-pub returns-in-Some-clause-on : goal.returns-in-Some-clause-on
-returns-in-Some-clause-on g c = goes-called replied after c.args.line.now.pass _ c.call.result c.call.new.self.pass c.call.ensures.call
+pub returns-in_err-answer-clause-kept : goal.returns-in_err-answer-clause-kept
+returns-in_err-answer-clause-kept g c = (goes-called replied after c.args.line.now.pass _ c.call.result c.call.new.self.pass c.call.ensures.call, c.call.ensures.mark, c.call.ensures.call.only)
 
-pub returns-clause-on : goal.returns-clause-on
-returns-clause-on g c = goes-called replied after c.args.line.now.pass _ c.call.result c.call.new.self.pass c.call.ensures.call
+pub returns-in-Some-clause-kept : goal.returns-in-Some-clause-kept
+returns-in-Some-clause-kept g c = (goes-called replied after c.args.line.now.pass _ c.call.result c.call.new.self.pass c.call.ensures.call, c.call.ensures.mark, c.call.ensures.call.only)
 
-pub returns-then-from-to-clause-seen : goal.returns-then-from-to-clause-seen
-returns-then-from-to-clause-seen g c = (refl, refl)
-
-pub returns-in_err-answer-clause-seen : goal.returns-in_err-answer-clause-seen
-returns-in_err-answer-clause-seen g c = (c.call.ensures.mark, c.call.ensures.call.only)
-
-pub returns-in-Some-clause-seen : goal.returns-in-Some-clause-seen
-returns-in-Some-clause-seen g c = (c.call.ensures.mark, c.call.ensures.call.only)
-
-pub returns-clause-seen : goal.returns-clause-seen
-returns-clause-seen g c = (c.call.ensures.mark, c.call.ensures.call.only)
+pub returns-clause-kept : goal.returns-clause-kept
+returns-clause-kept g c = (goes-called replied after c.args.line.now.pass _ c.call.result c.call.new.self.pass c.call.ensures.call, c.call.ensures.mark, c.call.ensures.call.only)

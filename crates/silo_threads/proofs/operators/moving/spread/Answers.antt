@@ -18,8 +18,8 @@ loop-queue-preserved g c =
     let within : c.loop-queue.queue < length c.loop-queue.lines.items = omega (arith, c.loop-queue-test.true, c.len-queue-end.ensures, long) in
     let line = c.index_mut-line.result.now in
     record {
-      since = since-more _ c.args.lines.now.items c.loop-queue.lines.items c.loop-queue.queue line c.move_queue.new.line within c.index_mut-line.ensures.value c.move_queue.ensures.on c.in_ok-move_queue.ensures.moved c.loop-queue.invariant.since;
-      seen = seen-set c.args.lines.now.items c.loop-queue.lines.items c.loop-queue.queue line c.move_queue.new.line within c.index_mut-line.ensures.value c.move_queue.ensures.seen c.loop-queue.invariant.seen;
+      since = since-more _ c.args.lines.now.items c.loop-queue.lines.items c.loop-queue.queue line c.move_queue.new.line within c.index_mut-line.ensures.value c.move_queue.ensures.kept.0 c.in_ok-move_queue.ensures.moved c.loop-queue.invariant.since;
+      seen = seen-set c.args.lines.now.items c.loop-queue.lines.items c.loop-queue.queue line c.move_queue.new.line within c.index_mut-line.ensures.value c.move_queue.ensures.kept.1 c.loop-queue.invariant.seen;
     }
 
 pub returns-in_err-move_queue : goal.returns-in_err-move_queue
@@ -36,8 +36,8 @@ returns-in_err-move_queue g c =
     let why = c.in_err-move_queue.field-0.0 in
     let unmoved = c.in_err-move_queue.ensures.unmoved in
     record {
-      on = since-on _ old lines at line moved within read c.move_queue.ensures.on since;
-      seen = seen-set old lines at line moved within read c.move_queue.ensures.seen c.loop-queue.invariant.seen;
+      on = since-on _ old lines at line moved within read c.move_queue.ensures.kept.0 since;
+      seen = seen-set old lines at line moved within read c.move_queue.ensures.kept.1 c.loop-queue.invariant.seen;
       moved = search rules;
       stayed = search rules;
       behind =
