@@ -1,5 +1,5 @@
 -- Lines whose passes make calls, one after another.
-use Rattle.silo_threads.proofs.Prelude.{after, replied, first-of-all, goes-refl, goes-set, goes-trans, on-trans, calls-number, owns-append, owns-foreign, CallsOn, DirectoryPass, LineView, QueuePass, OwnsNone, AreSilent, GoOn, GoesOn, LineGoesOn, LineIsSilent, ◌≡◌, ◌≢◌, ℕ, zero, suc, ◌<◌, ◌≤◌, ◌+◌, false, inl, inr, List, [], ◌∷◌, ◌++◌, append_assoc, drop, length, get_or, set, Some, Result, Ok, Err, refl, sym, ap, subst, ◌∙◌, arith, drop-append_seam, drop-append-le, slice_get-get_or, slice_get_within, slice_index, Reply, Op, numbers_of, silent-refl, entry, Entry, Refusal}
+use Rattle.silo_threads.proofs.Prelude.{after, replied, first-of-all, goes-refl, goes-set, goes-trans, on-trans, calls-number, owns-append, owns-foreign, CallsOn, DirectoryPass, LineView, QueuePass, OwnsNone, AreSilent, GoOn, GoesOn, LineGoesOn, LineIsSilent, ◌≡◌, ◌≢◌, ℕ, zero, suc, ◌<◌, ◌≤◌, ◌+◌, false, inl, inr, List, [], ◌∷◌, ◌++◌, append_assoc, drop, length, get_or, set, Some, Result, Ok, Err, refl, sym, ap, subst, ◌∙◌, arith, drop-append_seam, drop-append-le, slice_get-get_or, slice_get_within, Reply, Op, numbers_of, silent-refl, entry, Entry, Refusal}
 use Rattle.std.proofs.Math.ListN.{length-set}
 use Rattle.std.proofs.lemmas.List.{get_or-set_same}
 use Rattle.std.proofs.lemmas.Option.{slice_get_read}
@@ -17,12 +17,12 @@ use Rattle.silo_threads.specs.declared.operators.halt.Halt.{Halt}
 use Rattle.silo_threads.specs.declared.operators.halt.Halt.TheVariants as halt
 use Rattle.silo_threads.specs.declared.operators.leaving.Release.{Release}
 use Rattle.silo_threads.specs.declared.operators.leaving.Release.TheVariants as release
-use Rattle.silo_threads.specs.Changes.{AreDeactivated, AtEachQueue, HasFound, HasFoundOne, HasMade, HasSince, HasMovedNowhere, HaveMovedNowhere, HaveOnlySeen, HaveStayed, HoldsGrains, IsAtSilo, IsDeactivated, IsDeactivation, IsMove, IsNoneLeft, IsRelease, IsSpentMove, IsUnmoved, LineHasOnlySeen, Releases, StaysBehind, halt_of, is_move}
+use Rattle.silo_threads.specs.Changes.{AreDeactivated, AtEachQueue, HasFound, HasMade, HasSince, HasMovedNowhere, HaveMovedNowhere, HaveOnlySeen, HaveStayed, HoldsGrains, IsAtSilo, IsDeactivated, IsDeactivation, IsMove, IsNoneLeft, IsRelease, IsSpentMove, IsUnmoved, LineHasOnlySeen, Releases, halt_of, is_move}
 use Rattle.silo_threads.specs.Operators.{OperatorGoesOn, OperatorView}
 use Rattle.silo_threads.proofs.Rows.{zip-at, zip-both, zip-refl}
 use Rattle.silo_threads.proofs.Making.{called-last, found-refused, goes-called, goes-longer, made-called, made-cases, made-earlier, made-later, made-none, made-refused, owns-fewer}
 
-get-here : (ls : List LineView) (at : ℕ) (m : LineView) → at < length ls → slice_get (set ls at m) at ≡ Some m
+pub get-here : (ls : List LineView) (at : ℕ) (m : LineView) → at < length ls → slice_get (set ls at m) at ≡ Some m
 get-here ls at m within = slice_get_read (set ls at m) (length ls) at m (sym (length-set ls at m)) within (sym (get_or-set_same ls at m m within))
 
 get-other : (ls : List LineView) (at k : ℕ) (l : LineView) → k ≢ at → slice_get (set ls at l) k ≡ slice_get ls k
@@ -127,15 +127,6 @@ at-same before now l same = ((λ other. absurd (other same)), λ again. nowhere-
 pub at-other : (before now : ℕ) (l : LineView) (r : Reply) (m : LineView) → (now ≡ before → ⊥) → CallsOn l (op.Move now) (Ok r) m → (generation : ℕ) × (low : Token) × (r ≡ reply.Moved generation low) → IsAtSilo before now l m
 at-other before now l r m other calls moved =
     ((λ differs. called-last replied after is_move (IsMove now) l.pass (op.Move now) r m.pass calls.call (refl, moved)), λ same. absurd (other same))
-
--- the queue whose move was refused stays behind
-pub behind-at : (why : Halt) (old new : List LineView) (before now : List ℕ) (at : ℕ) (l m : LineView) → at < length new → slice_get old at ≡ Some l → slice_index now at ≢ slice_index before at → IsUnmoved why (slice_index now at) l m
-    → StaysBehind why old (set new at m) before now
-behind-at why old new before now at l m within had other unmoved = record { queue = at; was = l; is = m; had = had; has = get-here new at m within; other = other; unmoved = unmoved }
-
--- the line whose call was refused has found its history so
-pub found-at : (why : Halt) (new : List LineView) (at : ℕ) (m : LineView) → at < length new → HasFound why m.pass → HasFoundOne why (set new at m)
-found-at why new at m within found = (at, m, get-here new at m within, found)
 
 -- a Move that was answered Spent, and one that was refused
 pub unmoved-spent : (l : LineView) (silo : ℕ) (m : LineView) → CallsOn l (op.Move silo) (Ok reply.Spent) m → IsUnmoved halt.Limit silo l m

@@ -2,7 +2,7 @@ use Rattle.silo_threads.proofs.Prelude.{goes-length, ◌<◌, arith, length, rul
 use Rattle.silo_threads.specs.declared.operators.halt.Halt.{Halt}
 use Rattle.silo_threads.specs.Changes.{HasFoundOne}
 use Rattle.silo_threads.proofs.Making.{passed-on}
-use Rattle.silo_threads.proofs.Changing.{found-at, since-all, since-more, since-none, since-on}
+use Rattle.silo_threads.proofs.Changing.{get-here, since-all, since-more, since-none, since-on}
 use Rattle.silo_threads.proofs.operators.leaving.deactivate_everywhere.Goals as goal
 
 pub loop-queue-init : goal.loop-queue-init
@@ -26,7 +26,7 @@ returns-in_err-deactivate g c =
       on = since-on _ c.args.lines.now.items lines at c.index_mut-line.result.now c.deactivate.new.line within c.index_mut-line.ensures.value c.deactivate.ensures.on c.loop-queue.invariant;
       nowhere = search rules;
       done = search rules;
-      found = passed-on (λ (h : Halt). HasFoundOne h fresh) c.from_residual.result why c.from_residual.ensures.1 (found-at why lines at c.deactivate.new.line within c.in_err-deactivate.ensures.found);
+      found = passed-on (λ (h : Halt). HasFoundOne h fresh) c.from_residual.result why c.from_residual.ensures.1 (at, c.deactivate.new.line, get-here lines at c.deactivate.new.line within, c.in_err-deactivate.ensures.found);
     }
 
 pub returns : goal.returns

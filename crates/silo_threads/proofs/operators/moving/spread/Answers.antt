@@ -1,7 +1,7 @@
 use Rattle.silo_threads.proofs.Prelude.{goes-length, ◌<◌, arith, length, rules, set, common_steps}
 use Rattle.silo_threads.specs.declared.operators.halt.Halt.{Halt}
 use Rattle.silo_threads.specs.Changes.{StaysBehind}
-use Rattle.silo_threads.proofs.Changing.{behind-at, seen-refl, seen-set, since-all, since-more, since-next, since-none, since-on}
+use Rattle.silo_threads.proofs.Changing.{get-here, seen-refl, seen-set, since-all, since-more, since-next, since-none, since-on}
 use Rattle.silo_threads.proofs.Making.{passed-on}
 use Rattle.silo_threads.proofs.operators.moving.spread.Goals as goal
 
@@ -42,7 +42,7 @@ returns-in_err-move_queue g c =
       stayed = search rules;
       behind =
           passed-on (λ (h : Halt). StaysBehind h old (set lines at moved) c.args.old.now c.args.new.now) c.from_residual.result why c.from_residual.ensures.1
-          (behind-at why old lines c.args.old.now c.args.new.now at line moved within (since-next _ old lines at line within read since) unmoved.0 unmoved.1);
+          (record { queue = at; was = line; is = moved; had = since-next _ old lines at line within read since; has = get-here lines at moved within; other = unmoved.0; unmoved = unmoved.1 });
     }
 
 pub returns : goal.returns
