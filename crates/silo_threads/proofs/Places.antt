@@ -1,6 +1,5 @@
 -- A change of silos leaves the turnstiles of the queues.
 use Rattle.silo_threads.proofs.Prelude.{goes-places, places, ◌≡◌, ℕ, Result, Ok, ap, AllocError}
-use Rattle.silo_threads.specs.Operators.{OperatorGoesOn, OperatorView}
 use Rattle.silo_threads.specs.Clusters.{AnswersDown, AnswersUp, ClusterView}
 use Rattle.silo_threads.specs.declared.clusters.cluster.SiloDown.{SiloDown}
 use Rattle.silo_threads.specs.declared.clusters.cluster.SiloDown.TheVariants as down
@@ -11,16 +10,13 @@ use Rattle.silo_threads.specs.declared.clusters.cluster.SiloUp.TheVariants as up
 same-places : (v w : ClusterView) → w ≡ v → places w.operator.lines ≡ places v.operator.lines
 same-places v w same = ap (λ (c : ClusterView). places c.operator.lines) same
 
-on-places : (v w : OperatorView) → OperatorGoesOn v w → places w.lines ≡ places v.lines
-on-places v w on = goes-places v.lines w.lines on.lines
-
 pub up-places : (v w : ClusterView) (silo : ℕ) (result : Result SiloUp AllocError) → AnswersUp v silo result w → places w.operator.lines ≡ places v.operator.lines
 up-places v w silo (Ok up.Halted) answers = same-places v w answers.1
 up-places v w silo (Ok up.Already) answers = same-places v w answers.2
-up-places v w silo _ answers = on-places v.operator w.operator answers.2.on
+up-places v w silo _ answers = goes-places v.operator.lines w.operator.lines answers.2.on.lines
 
 pub down-places : (v w : ClusterView) (silo : ℕ) (result : Result SiloDown AllocError) → AnswersDown v silo result w → places w.operator.lines ≡ places v.operator.lines
 down-places v w silo (Ok down.Halted) answers = same-places v w answers.1
 down-places v w silo (Ok down.NotLive) answers = same-places v w answers.2
 down-places v w silo (Ok down.LastSilo) answers = same-places v w answers.2
-down-places v w silo _ answers = on-places v.operator w.operator answers.2.on
+down-places v w silo _ answers = goes-places v.operator.lines w.operator.lines answers.2.on.lines

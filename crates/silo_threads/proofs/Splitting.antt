@@ -37,9 +37,6 @@ module _ {O R S : Type 0} where
       let first : q.turnstile ≡ p.turnstile = cc in
       (first, front-alike ps qs rest)
 
-  pub front-split : (ps qs : List (PassView O R S)) → AllZipFront IsSplitOff ps qs → AllZipFront AreAlike ps qs
-  front-split ps qs all = front-weaker IsSplitOff AreAlike split-alike ps qs all
-
   -- the last one is joined first
   join-last : (ps rest : List (PassView O R S)) (d q w : PassView O R S) (rs : List (PassView O R S)) → length rest < length ps → Joins (get_or ps (length rest) d) q w → JoinsAll (set ps (length rest) w) rest rs → JoinsAll ps (rest ++ q ∷ []) rs
   join-last [] rest d q w rs less j all = absurd (omega arith)
@@ -130,7 +127,7 @@ module _ {O R S : Type 0} where
   pub refused-alike : (old now fresh made : List (PassView O R S)) (at : ℕ) (q : PassView O R S) → now ≡ old → length made ≡ at → AllZipFront IsSplitOff old made → fresh ≡ set now at q → AllZipFront AreAlike fresh made
   refused-alike old now fresh made at q same here all put =
       subst (λ (es : List (PassView O R S)). AllZipFront AreAlike es made) (sym (put ∙ ap (λ (es : List (PassView O R S)). set es at q) same ∙ ap (λ n. set old n q) (sym here)))
-      (front-set AreAlike old made q (front-split old made all))
+      (front-set AreAlike old made q (front-weaker IsSplitOff AreAlike split-alike old made all))
 
   pub refused-back : (old now fresh final made : List (PassView O R S)) (at : ℕ) (p q : PassView O R S) → at < length old → now ≡ old → length made ≡ at → AllZipFront IsSplitOff old made → p ≡ get_or now at p → HasOnlyMade p q → fresh ≡ set now at q
       → final ≡ joined_passes fresh made → HaveTakenBack old final

@@ -1,5 +1,5 @@
 -- What a change of silos leaves.
-use Rattle.silo_threads.proofs.Prelude.{IsBalanced, goes-length, goes-places, goes-refl, goes-trans, on-refl, split-places, still-at, taken-silo, DirectoryPass, LineView, QueuePass, places, IsOtherIn, OwnsNone, AreSilent, AreTakenIn, GoOn, GoesOn, HasRun, IsFresh, IsSilent, IsSiloAt, IsSplitLine, LineGoesOn, SiloView, ◌≡◌, ◌⊎◌, inl, inr, ℕ, zero, suc, ◌<◌, ◌≤◌, ◌+◌, Bool, true, false, List, [], ◌∷◌, ◌++◌, length, drop, get_or, map, remove, Contains, Some, Result, Ok, Err, refl, sym, ap, subst, ◌∙◌, arith, get_or-map, length-append, length-map, length_push, map-append, slice_get-get_or, slice_get_within, AllByRecursion, AllZip, range_with_len, slice_index, unwrap_or, replicate, ◌||◌, AllocError, All-push, All-weaken, map-id, Reply, Op, Entry, IfOk, OnOk}
+use Rattle.silo_threads.proofs.Prelude.{IsBalanced, goes-length, goes-places, goes-refl, on-refl, split-places, still-at, taken-silo, DirectoryPass, LineView, QueuePass, places, IsOtherIn, OwnsNone, AreSilent, AreTakenIn, GoOn, GoesOn, HasRun, IsFresh, IsSilent, IsSiloAt, IsSplitLine, LineGoesOn, SiloView, ◌≡◌, ◌⊎◌, inl, inr, ℕ, zero, suc, ◌<◌, ◌≤◌, ◌+◌, Bool, true, false, List, [], ◌∷◌, ◌++◌, length, drop, get_or, map, remove, Contains, Some, Result, Ok, Err, refl, sym, ap, subst, ◌∙◌, arith, get_or-map, length-append, length-map, length_push, map-append, slice_get-get_or, slice_get_within, AllByRecursion, AllZip, range_with_len, slice_index, unwrap_or, replicate, ◌||◌, AllocError, All-push, All-weaken, map-id, Reply, Op, Entry, IfOk, OnOk}
 use Rattle.std.proofs.lemmas.List.Edits.{length-remove}
 use Rattle.std.proofs.lemmas.List.FromFn.{get_or-range_with_len, length-range_with_len, map-range_with_len_more}
 use Rattle.std.specs.List.{slice_get}
@@ -154,13 +154,6 @@ halted-so r limit P halt.Limit is met memory = subst P (sym is) (met refl)
 halted-so (Ok x) limit P halt.Memory is met memory = absurd (cc (is))
 halted-so (Err e) limit P halt.Memory is met memory = memory e
 
--- Each grain that left since the first pass was deactivated: the passes in between made no call, and the lines went on.
-deactivated-from : (silo : ℕ) (d e f : DirectoryPass) (old new last later : List LineView) → IsSilent d e → GoesOn e f → GoOn old new → GoOn new last → GoOn last later → AreDeactivated silo e f new last → AreDeactivated silo d f old later
-deactivated-from silo d e f old new last later silent on lines lines2 lines3 gone =
-    λ grain made.
-    each-later (IsDeactivation grain) old last later (goes-trans old new last lines lines2) lines3
-    (each-earlier (IsDeactivation grain) old new last lines lines2 (gone grain (made-since-silent (IsRelease silo grain) d e f silent on made)))
-
 -- What is left once a silo went: its passes were joined, its grains taken, it lives no more, and the queues are spread.
 pub left-whole : (silo place : ℕ) (v u t s w : OperatorView) → HasOnlyGoneOn v u → IsSilent v.directory u.directory → AreSilent v.lines u.lines → HasOnlyGoneOn u t → HaveMovedNowhere u.lines t.lines → AreDeactivated silo u.directory t.directory u.lines t.lines
     → HasMade (length u.directory.seen) t.directory (IsNoneLeft silo) → s ≡ record t { live = remove t.live place } → OperatorGoesOn s w → w.directory ≡ s.directory → w.live ≡ s.live → HasSpread s w → HaveStayed s.lines w.lines s.assignment w.assignment → HasLeft silo place v w
@@ -174,7 +167,9 @@ left-whole silo place v u t s w back silent silents taken nowhere gone none_left
       none_left = subst (λ (d : DirectoryPass). HasMade (length v.directory.seen) d (IsNoneLeft silo)) (sym directory)
           (made-earlier (IsNoneLeft silo) (length v.directory.seen) (length u.directory.seen) t.directory (goes-longer v.directory u.directory back.on.directory) none_left);
       deactivated = subst (λ (d : DirectoryPass). AreDeactivated silo v.directory d v.lines w.lines) (sym directory)
-          (deactivated-from silo v.directory u.directory t.directory v.lines u.lines t.lines w.lines silent taken.on.directory back.on.lines taken.on.lines later gone);
+          (λ grain made.
+          each-later (IsDeactivation grain) v.lines t.lines w.lines away.lines later
+          (each-earlier (IsDeactivation grain) v.lines u.lines t.lines back.on.lines taken.on.lines (gone grain (made-since-silent (IsRelease silo grain) v.directory u.directory t.directory silent taken.on.directory made))));
       stayed =
           stayed-earlier v.lines t.lines w.lines v.assignment w.assignment away.lines later
           (nowhere-trans v.lines u.lines t.lines back.on.lines taken.on.lines (nowhere-silents v.lines u.lines silents) nowhere)
@@ -237,10 +232,6 @@ all-unused _ _ all = absurd all
 pub line-turnstiles : (ls : List LineView) → turnstiles (map (λ (l : LineView). l.pass) ls) ≡ places ls
 line-turnstiles [] = refl
 line-turnstiles (l ∷ ls) = ap (λ ts. l.pass.turnstile ∷ ts) (line-turnstiles ls)
-
--- the loops of the silo at a place come back where they were
-pub back-at : (v : OperatorView) (ss : List SiloView) (place : ℕ) (s t : SiloView) → place < length ss → s ≡ get_or ss place s → RunsOn v ss → HasRun s t → IsSiloAt v.lines v.directory t
-back-at v ss place s t within read runs same = same-at v.lines v.directory s t (subst (λ (x : SiloView). IsSiloAt v.lines v.directory x) (sym read) (All-at (IsSiloAt v.lines v.directory) ss place s runs within)) same
 
 -- the silo at a place lives there
 pub silo-place : (ss : List SiloView) (live : List ℕ) (place : ℕ) (s : SiloView) → map (λ (x : SiloView). x.silo) ss ≡ live → place < length ss → s ≡ get_or ss place s → slice_get live place ≡ Some s.silo
@@ -416,10 +407,6 @@ only-one [] silo lives one = absurd (omega (arith, one))
 only-one (x ∷ []) silo (zero, within, here) one = ap (λ k. k ∷ []) here
 only-one (x ∷ []) silo (suc at, within, here) one = absurd (omega (arith, within))
 only-one (x ∷ y ∷ ys) silo lives one = absurd (omega (arith, one))
-
--- what `retire` answers where the silo is the last
-pub last-stays : (v : ClusterView) (loops : SiloView) (many : ℕ) → v.is_halted ≡ false → (v.is_halted ≡ false → Contains v.operator.live loops.silo) → many ≡ length v.operator.live → many ≡ 1 → v.operator.live ≡ loops.silo ∷ []
-last-stays v loops many free lives count one = only-one v.operator.live loops.silo (lives free) (sym count ∙ one)
 
 -- ends of which each is of no loop
 pub ends-none : (e : LoopEnds) → e.memory ≡ false → e.limit ≡ false → e.rounds ≡ false → e ≡ none_ended

@@ -1,7 +1,7 @@
 use Rattle.silo_threads.proofs.Prelude.{IsSiloAt, SiloView, Some, arith, ap, length, refl, subst, sym, true, ◌∙◌, slice_get_within}
 use Rattle.silo_threads.specs.Clusters.{AnswersRetire, ClusterView, IsBrokenOff, IsRetired}
 use Rattle.silo_threads.specs.declared.clusters.cluster.Retired.TheVariants as retired
-use Rattle.silo_threads.proofs.Standing.{halted-so, last-stays, may-go, parked-stays}
+use Rattle.silo_threads.proofs.Standing.{halted-so, may-go, only-one, parked-stays}
 use Rattle.silo_threads.proofs.clusters.cluster.Cluster.retire.Goals as goal
 
 pub leave-requires-clause-place : goal.leave-requires-clause-place
@@ -28,7 +28,7 @@ pub returns-then-live_count-eq1 : goal.returns-then-live_count-eq1
 returns-then-live_count-eq1 g c =
     let free = sym (ap (λ (u : ClusterView). u.is_halted) c.self.view_is) ∙ c.if-self.false in
     let count = c.live_count.ensures ∙ ap (λ (u : ClusterView). length u.operator.live) c.self.view_is in
-    (free, last-stays c.args.self.now c.args.loops c.live_count.result free c.requires.live count c.if-live_count-eq1.true, refl, refl)
+    (free, only-one c.args.self.now.operator.live c.args.loops.silo (c.requires.live free) (sym count ∙ c.if-live_count-eq1.true), refl, refl)
 
 pub returns-in-Ok : goal.returns-in-Ok
 returns-in-Ok g c =

@@ -1,8 +1,9 @@
-use Rattle.silo_threads.proofs.Prelude.{AllocError, SiloView, ◌≡◌, Ok, Result, false, Some, ℕ, arith, ap, refl, subst, sym, true, ◌∙◌, slice_get_within}
+use Rattle.silo_threads.proofs.Prelude.{AllocError, IsSiloAt, SiloView, ◌≡◌, Ok, Result, false, Some, ℕ, arith, ap, refl, subst, sym, true, ◌∙◌, slice_get_within}
+use Rattle.stream_ident.proofs.WordLemmas.{All-at}
 use Rattle.silo_threads.specs.Clusters.{AnswersDown, ClusterView, HasHalted, HasLeft, IsEmptied}
 use Rattle.silo_threads.specs.declared.clusters.cluster.SiloDown.{SiloDown}
 use Rattle.silo_threads.specs.declared.clusters.cluster.SiloDown.TheVariants as down
-use Rattle.silo_threads.proofs.Standing.{back-at, cluster-gone, halted-so, has-noted, may-go, not-fixed, place-within, silo-place}
+use Rattle.silo_threads.proofs.Standing.{cluster-gone, halted-so, has-noted, may-go, not-fixed, place-within, same-at, silo-place}
 use Rattle.silo_threads.proofs.clusters.cluster.Cluster.silo_down.Goals as goal
 
 pub leave-requires-clause-place : goal.leave-requires-clause-place
@@ -17,7 +18,8 @@ leave-requires-clause-at g c κs within =
     let v : ClusterView = record { operator = c.self.inside.operator; silos = c.self.inside.silos.items; ends = c.self.inside.ends; is_parked = c.self.inside.parked; is_halted = c.self.inside.halted; rounds = c.self.inside.rounds; looks = c.self.inside.looks } in
     let loops = c.self.invariant.loops (not-fixed v c.if-self.false c.if-self-2.false) in
     let here = place-within v.silos v.operator.live c.in-Some.place c.args.silo loops c.in-Some.ensures in
-    back-at v.operator v.silos c.in-Some.place c.remove-running.result c.stop-loops.result here c.remove-running.ensures.value c.self.invariant.at c.stop-loops.ensures
+    let stood = subst (λ (s : SiloView). IsSiloAt v.operator.lines v.operator.directory s) (sym c.remove-running.ensures.value) (All-at (IsSiloAt v.operator.lines v.operator.directory) v.silos c.in-Some.place c.remove-running.result c.self.invariant.at here) in
+    same-at v.operator.lines v.operator.directory c.remove-running.result c.stop-loops.result stood c.stop-loops.ensures
 
 pub leave-requires-clause-others : goal.leave-requires-clause-others
 leave-requires-clause-others g c κs within =
