@@ -26,13 +26,10 @@ module _ {A : Type 0} (P : A → Type 0) where
         | inr there ↦ elim (some-cases xs ys there) as (λ s. (P x ⊎ HasSome P xs) ⊎ HasSome P ys) [ inl left ↦ inl (inr left) | inr right ↦ inr right ]
       ]
 
-  some-within : (n : ℕ) (xs : List A) → HasSome P (drop n xs) → HasSome P xs
-  some-within zero xs some = some
-  some-within (suc n) [] some = absurd some
-  some-within (suc n) (x ∷ xs) some = inr (some-within n xs some)
-
   some-drop : (m n : ℕ) (xs : List A) → m ≤ n → HasSome P (drop n xs) → HasSome P (drop m xs)
-  some-drop zero n xs less some = some-within n xs some
+  some-drop zero zero xs less some = some
+  some-drop zero (suc n) [] less some = absurd some
+  some-drop zero (suc n) (x ∷ xs) less some = inr (some-drop zero n xs (omega arith) some)
   some-drop (suc m) zero xs less some = absurd (omega arith)
   some-drop (suc m) (suc n) [] less some = absurd some
   some-drop (suc m) (suc n) (x ∷ xs) less some = some-drop m n xs (omega arith) some
