@@ -24,7 +24,7 @@ pub use Rattle.stream_ident.proofs.EachOf.{All-append, All-push, All-weaken}
 pub use Rattle.stream_model.specs.Replies.{Reply}
 pub use Rattle.stream_model.specs.declared.op.Op.{Op}
 pub use Rattle.stream_model.specs.declared.plain.PlainPartition.{PlainPartition}
-pub use Rattle.turnstile.proofs.Histories.{foreign-append, legal_last, replay_snoc}
+pub use Rattle.turnstile.proofs.Histories.{legal_last, replay_snoc}
 pub use Rattle.turnstile.specs.Calls.{Agree, HasOnlyMade, HasOnlySeen, IsOf, IsSplitOff, joined_pass, numbers_of}
 pub use Rattle.turnstile.specs.Closing.{FromAll, HasSome, all_numbers}
 pub use Rattle.turnstile.specs.History.{Foreign, IsLegal, Own, entry, longer, replay}

@@ -1,5 +1,7 @@
 -- Passes that take in others, one after another.
-use Rattle.silo_threads.proofs.Prelude.{LineView, NeverProduces, QueuePass, places, IsOtherIn, IsPartOf, ◌≡◌, ℕ, List, [], ◌∷◌, ◌++◌, length, Contains, refl, sym, ap, subst, ◌∙◌, append_assoc, arith, append-nil, AllByRecursion, AllZip, Reply, Op, foreign-append, numbers_of, Foreign, Entry}
+use Rattle.silo_threads.proofs.Prelude.{LineView, NeverProduces, QueuePass, places, IsOtherIn, IsPartOf, ◌≡◌, ℕ, List, [], ◌∷◌, ◌++◌, length, Contains, refl, sym, ap, subst, ◌∙◌, arith, AllByRecursion, AllZip, Reply, Op, numbers_of, Foreign, Entry}
+use Rattle.turnstile.proofs.Histories.{claims_extend, claims_same}
+use Rattle.turnstile.specs.History.{Claims}
 use Rattle.silo_loops.proofs.Going.{on-joined}
 use Rattle.silo_loops.proofs.Taking.{taken-joined}
 use Rattle.silo_threads.specs.Calls.{Joins, JoinsAll, turnstiles}
@@ -15,18 +17,15 @@ foreign-within fewer numbers [] within f = tt
 foreign-within fewer numbers (e ∷ es) within f = ((λ here. f.0 (within e.number here)), foreign-within fewer numbers es within f.1)
 
 part-refl : (p : QueuePass) → IsPartOf p p
-part-refl p = record { numbers = λ k here. here; claims = record { rest = []; is = sym (append-nil p.seen); foreign = tt } }
+part-refl p = record { numbers = λ k here. here; claims = claims_same (numbers_of p) p.seen p.seen refl }
 
 part-trans : (p q r : QueuePass) → IsPartOf p q → IsPartOf q r → IsPartOf p r
 part-trans p q r a b =
     record {
       numbers = λ k here. b.numbers k (a.numbers k here);
       claims =
-          record {
-            rest = a.claims.rest ++ b.claims.rest;
-            is = b.claims.is ∙ ap (λ (es : List (Entry Op Reply)). es ++ b.claims.rest) a.claims.is ∙ append_assoc p.seen a.claims.rest b.claims.rest;
-            foreign = foreign-append (numbers_of p) a.claims.rest b.claims.rest a.claims.foreign (foreign-within (numbers_of p) (numbers_of q) b.claims.rest a.numbers b.claims.foreign);
-          };
+          subst (λ (es : List (Entry Op Reply)). Claims (numbers_of p) p.seen es) (sym b.claims.is)
+          (claims_extend (numbers_of p) p.seen q.seen b.claims.rest a.claims (foreign-within (numbers_of p) (numbers_of q) b.claims.rest a.numbers b.claims.foreign));
     }
 
 first-refl : (p : QueuePass) → IsFirstOf p p
