@@ -39,12 +39,9 @@ pub pending-reply : (r : Reply) (why : Pending) → pending_of r ≡ Some why �
 pending-reply (reply.NotQuiet w) why is = ap (λ (w : Pending). reply.NotQuiet w) (ap (λ o. unwrap_or o w) is)
 pending-reply _ why is = absurd (none-some why is)
 
-pub quiet-told : (r : Reply) (p q : QueuePass) → Asks (Ok r) p q → pending_of r ≡ None → r ≡ reply.IsQuiet
-quiet-told r p q asks is =
-    elim (asks-look r p q asks) as (λ w. r ≡ reply.IsQuiet) [
-      | inl same ↦ same
-      | inr same ↦ absurd (none-some same.0 (sym is ∙ ap (λ (x : Reply). pending_of x) same.1))
-    ]
+pub quiet-told : (r : Reply) → IsLook r → pending_of r ≡ None → r ≡ reply.IsQuiet
+quiet-told r (inl same) is = same
+quiet-told r (inr same) is = absurd (none-some same.0 (sym is ∙ ap (λ (x : Reply). pending_of x) same.1))
 
 -- each queue below this one was quiet, and those from it on weren't asked
 abbrev pub QuietUpTo : ℕ → List QueuePass → List QueuePass → Type 0

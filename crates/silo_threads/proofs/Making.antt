@@ -20,11 +20,8 @@ module _ {A : Type 0} (P : A → Type 0) where
 
   some-cases : (xs ys : List A) → HasSome P (xs ++ ys) → HasSome P xs ⊎ HasSome P ys
   some-cases [] ys some = inr some
-  some-cases (x ∷ xs) ys some =
-      elim some as (λ s. (P x ⊎ HasSome P xs) ⊎ HasSome P ys) [
-        | inl here ↦ inl (inl here)
-        | inr there ↦ elim (some-cases xs ys there) as (λ s. (P x ⊎ HasSome P xs) ⊎ HasSome P ys) [ inl left ↦ inl (inr left) | inr right ↦ inr right ]
-      ]
+  some-cases (x ∷ xs) ys (inl here) = inl (inl here)
+  some-cases (x ∷ xs) ys (inr there) = elim (some-cases xs ys there) as (λ s. (P x ⊎ HasSome P xs) ⊎ HasSome P ys) [ inl left ↦ inl (inr left) | inr right ↦ inr right ]
 
   some-drop : (m n : ℕ) (xs : List A) → m ≤ n → HasSome P (drop n xs) → HasSome P (drop m xs)
   some-drop zero zero xs less some = some
@@ -42,11 +39,8 @@ module _ {O R : Type 0} where
   -- none of these is a call of the number
   none-foreign : (number : ℕ) (joined : List ℕ) (IsSuch : O → R → Type 0) (es : List (Entry O R)) → Foreign (number ∷ joined) es → HasSome (λ (e : Entry O R). (e.number ≡ number) × IsSuch e.op e.reply) es → ⊥
   none-foreign number joined IsSuch [] foreign some = some
-  none-foreign number joined IsSuch (e ∷ es) foreign some =
-      elim some as (λ s. ⊥) [
-        | inl here ↦ foreign.0 (0, omega arith, sym here.0)
-        | inr there ↦ none-foreign number joined IsSuch es foreign.1 there
-      ]
+  none-foreign number joined IsSuch (e ∷ es) foreign (inl here) = foreign.0 (0, omega arith, sym here.0)
+  none-foreign number joined IsSuch (e ∷ es) foreign (inr there) = none-foreign number joined IsSuch es foreign.1 there
 
   -- who did none of it under more numbers did none under fewer
   pub owns-fewer : (test : O → Bool) (fewer numbers : List ℕ) (es : List (Entry O R)) → ((k : ℕ) → Contains fewer k → Contains numbers k) → OwnsNone test numbers es → OwnsNone test fewer es

@@ -74,11 +74,8 @@ module _ {O R S : Type 0} where
   back-each : (ps qs : List (PassView O R S)) → HaveTakenBack ps qs → AllZip HasOnlyJoined ps qs
   back-each [] qs back = subst (λ (ks : List (PassView O R S)). AllZip HasOnlyJoined [] ks) (sym back) tt
   back-each (p ∷ ps) [] back = absurd back
-  back-each (p ∷ ps) (q ∷ qs) back =
-      elim back as (λ s. HasOnlyJoined p q × AllZip HasOnlyJoined ps qs) [
-        | inl made ↦ (made-joined p q made.0, subst (λ (ks : List (PassView O R S)). AllZip HasOnlyJoined ps ks) (sym made.1) (zip-refl HasOnlyJoined (λ r. (refl, omega arith)) ps))
-        | inr some ↦ (back-joined p q some.0, back-each ps qs some.1)
-      ]
+  back-each (p ∷ ps) (q ∷ qs) (inl made) = (made-joined p q made.0, subst (λ (ks : List (PassView O R S)). AllZip HasOnlyJoined ps ks) (sym made.1) (zip-refl HasOnlyJoined (λ r. (refl, omega arith)) ps))
+  back-each (p ∷ ps) (q ∷ qs) (inr some) = (back-joined p q some.0, back-each ps qs some.1)
 
   pub none-back : (ps : List (PassView O R S)) → HaveTakenBack ps ps
   none-back [] = refl

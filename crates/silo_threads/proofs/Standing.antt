@@ -103,11 +103,8 @@ limited-earlier u v w queue on limited =
     }
 
 pub met-earlier : (u v w : OperatorView) → OperatorGoesOn u v → HasMetLimit v w → HasMetLimit u w
-met-earlier u v w on met =
-    elim met as (λ s. HasMetLimit u w) [
-      | inl found ↦ inl found
-      | inr limited ↦ inr (limited.0, limited-earlier u v w limited.0 on limited.1)
-    ]
+met-earlier u v w on (inl found) = inl found
+met-earlier u v w on (inr limited) = inr (limited.0, limited-earlier u v w limited.0 on limited.1)
 
 -- a spread or an eviction that was broken off at a limit has met one
 behind-limited : (v w : OperatorView) (fresh : List ℕ) (behind : StaysBehind halt.Limit v.lines w.lines v.assignment fresh) → IsLimitedAt v w behind.queue
@@ -125,20 +122,16 @@ behind-limited v w fresh behind =
     }
 
 pub spread-met : (u v w : OperatorView) → OperatorGoesOn u v → (v.live ≡ [] → ⊥) → (why : Halt) → why ≡ halt.Limit → IsUnspread why v.assignment v.live v.lines w.lines → HasMetLimit u w
-spread-met u v w on some why is unspread =
-    elim (subst (λ (h : Halt). IsUnspread h v.assignment v.live v.lines w.lines) is unspread) as (λ s. HasMetLimit u w) [
-      | inl nothing ↦ absurd (some (nothing.1 refl))
-      | inr left ↦ inr (left.2.queue, limited-earlier u v w left.2.queue on (behind-limited v w left.0 left.2))
-    ]
+spread-met u v w on some halt.Limit is (inl nothing) = absurd (some (nothing.1 refl))
+spread-met u v w on some halt.Limit is (inr left) = inr (left.2.queue, limited-earlier u v w left.2.queue on (behind-limited v w left.0 left.2))
+spread-met u v w on some halt.Memory is unspread = absurd (cc (is))
 
 pub evict-met : (u w : OperatorView) (silo : ℕ) (d : DirectoryPass) → OperatorGoesOn u w → (why : Halt) → why ≡ halt.Limit → HoldsGrains why silo d w.directory w.lines → HasMetLimit u w
-evict-met u w silo d on why is holds =
-    elim (subst (λ (h : Halt). HoldsGrains h silo d w.directory w.lines) is holds).1 as (λ s. HasMetLimit u w) [
-      | inl found ↦ inl found
-      | inr at ↦
-          let first = zip-at LineGoesOn u.lines w.lines at.0 at.1 on.lines at.2 in
-          inr (at.0, record { was = first.0; is = at.1; had = first.1; has = at.2; cause = inl at.3 })
-    ]
+evict-met u w silo d on halt.Limit is (none, inl found) = inl found
+evict-met u w silo d on halt.Limit is (none, inr at) =
+    let first = zip-at LineGoesOn u.lines w.lines at.0 at.1 on.lines at.2 in
+    inr (at.0, record { was = first.0; is = at.1; had = first.1; has = at.2; cause = inl at.3 })
+evict-met u w silo d on halt.Memory is holds = absurd (cc (is))
 
 -- some silo lives where one came, and where one of two or more went
 pub came-some : (live : List ℕ) (silo : ℕ) → live ++ silo ∷ [] ≡ [] → ⊥

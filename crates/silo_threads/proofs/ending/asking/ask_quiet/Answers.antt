@@ -1,7 +1,7 @@
 use Rattle.silo_threads.proofs.Prelude.{◌≡◌, ◌∙◌, Result, Ok, Err, arith, ap, sym, subst, rules, common_steps, err_from_is_err_and, Reply, Refusal}
 use Rattle.silo_threads.specs.declared.ending.asking.Quiet.{Quiet}
 use Rattle.silo_threads.specs.Asking.{AsksQuiet, AsksUpTo}
-use Rattle.silo_threads.proofs.Looking.{asked-next, pending-reply, quiet-all, quiet-next, quiet-told}
+use Rattle.silo_threads.proofs.Looking.{asked-next, asks-look, pending-reply, quiet-all, quiet-next, quiet-told}
 use Rattle.silo_threads.proofs.ending.asking.ask_quiet.Goals as goal
 
 pub returns-in_err-answer-clause-asks : goal.returns-in_err-answer-clause-asks
@@ -19,7 +19,7 @@ returns-in-Some-clause-asks g c =
 pub loop-queue-preserved : goal.loop-queue-preserved
 loop-queue-preserved g c =
     record {
-      quiet = quiet-next c.loop-queue.queue c.in_ok-answer.answer c.args.caller.now c.loop-queue.caller c.ask.new.self c.loop-queue.invariant.quiet c.in_ok-answer.ensures.calls (quiet-told c.in_ok-answer.answer _ _ c.in_ok-answer.ensures.calls.calls (sym c.pending_of.ensures ∙ c.in-None.is));
+      quiet = quiet-next c.loop-queue.queue c.in_ok-answer.answer c.args.caller.now c.loop-queue.caller c.ask.new.self c.loop-queue.invariant.quiet c.in_ok-answer.ensures.calls (quiet-told c.in_ok-answer.answer (asks-look c.in_ok-answer.answer _ _ c.in_ok-answer.ensures.calls.calls) (sym c.pending_of.ensures ∙ c.in-None.is));
       at = c.ask.ensures.turnstiles ∙ c.loop-queue.invariant.at;
     }
 
