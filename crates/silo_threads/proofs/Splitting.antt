@@ -145,8 +145,9 @@ splits-off old new kept at past same long front =
     record { same = same; off = off; unused = all-unused old new off; beside = all-beside IsSplitOff split-alike old new off }
 
 -- where one pass has only seen more, each is still at its turnstile
-pub turnstiles-set : (ps new : List QueuePass) (queue : ℕ) (was is : QueuePass) → slice_get ps queue ≡ Some was → new ≡ slice_set ps queue is → HasOnlySeen was is → turnstiles new ≡ turnstiles ps
-turnstiles-set ps new queue was is had whole only =
+pub turnstiles-set : (ps old new : List QueuePass) (queue : ℕ) (was is : QueuePass) → ps ≡ old → slice_get ps queue ≡ Some was → new ≡ slice_set ps queue is → HasOnlySeen was is → turnstiles new ≡ turnstiles old
+turnstiles-set ps old new queue was is same had whole only =
     ap (λ (qs : List QueuePass). turnstiles qs) whole
     ∙ map-set_same (λ (p : QueuePass). p.turnstile) ps queue is was
     (ap (λ (p : QueuePass). p.turnstile) only ∙ ap (λ (p : QueuePass). p.turnstile) (sym (get_or_from_slice_get ps queue was was had)))
+    ∙ ap (λ (qs : List QueuePass). turnstiles qs) same

@@ -1,7 +1,6 @@
-use Rattle.silo_threads.proofs.Prelude.{QueuePass, ◌∙◌, List, ap, subst, sym}
+use Rattle.silo_threads.proofs.Prelude.{List, subst, sym}
 use Rattle.stream_ident.specs.declared.event.Event.{Event}
 use Rattle.step_core.specs.Replied.{HasEvents}
-use Rattle.silo_threads.specs.Calls.{turnstiles}
 use Rattle.silo_threads.proofs.Showing.{has-events}
 use Rattle.silo_threads.proofs.Splitting.{turnstiles-set}
 use Rattle.silo_threads.proofs.callers.caller.Caller.call.Goals as goal
@@ -9,7 +8,7 @@ use Rattle.silo_threads.proofs.callers.caller.Caller.call.Goals as goal
 pub returns-in_err-answer-clause-turnstiles : goal.returns-in_err-answer-clause-turnstiles
 returns-in_err-answer-clause-turnstiles g c =
     let one = c.ask_at.ensures.calls in
-    turnstiles-set _ _ _ _ _ one.had one.whole one.calls.calls.only ∙ ap (λ (ps : List QueuePass). turnstiles ps) c.self.view_is
+    turnstiles-set _ _ _ _ _ _ c.self.view_is one.had one.whole one.calls.calls.only
 
 pub reply-requires : goal.reply-requires
 reply-requires g c =
@@ -18,4 +17,4 @@ reply-requires g c =
 pub returns-clause-turnstiles : goal.returns-clause-turnstiles
 returns-clause-turnstiles g c =
     let one = c.ask_at.ensures.calls in
-    turnstiles-set _ _ _ _ _ one.had one.whole one.calls.calls.only ∙ ap (λ (ps : List QueuePass). turnstiles ps) c.self.view_is
+    turnstiles-set _ _ _ _ _ _ c.self.view_is one.had one.whole one.calls.calls.only
