@@ -2,13 +2,11 @@ pub mod Answered
 pub mod Begun
 pub mod Changing
 pub mod GoneOn
-pub mod Looked
 pub mod Looking
 pub mod Making
 pub mod Places
 pub mod Replies
 pub mod Rows
-pub mod Showing
 pub mod Splitting
 pub mod Spreading
 pub mod Standing

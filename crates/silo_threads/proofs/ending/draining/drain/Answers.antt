@@ -1,13 +1,35 @@
-use Rattle.silo_threads.proofs.Prelude.{◌≡◌, ◌+◌, ◌∙◌, ℕ, Err, Ok, arith, refl, rules, subst, common_steps, Refusal}
+use Rattle.silo_threads.proofs.Prelude.{◌≡◌, ◌+◌, ◌∙◌, ℕ, Err, Ok, arith, refl, rules, subst, common_steps, Refusal, QueuePass, suc, ◌<◌, List, Result, AllZip}
 use Rattle.turnstile.specs.declared.turnstile.Refusal.TheVariants.{HistoryFull, Memory}
 use Rattle.silo_threads.specs.declared.ending.asking.Quiet.{Quiet}
-use Rattle.silo_threads.specs.declared.ending.asking.Quiet.TheVariants.{All}
+use Rattle.silo_threads.specs.declared.ending.asking.Quiet.TheVariants.{All, NotQuiet}
 use Rattle.silo_threads.specs.Asking.{AsksQuiet}
-use Rattle.silo_threads.specs.Draining.{LooksInVain, ProducesNone}
-use Rattle.silo_threads.proofs.Rows.{zip-refl}
-use Rattle.silo_threads.proofs.Looked.{last-look, looks-none, none-on, vain-more}
-use Rattle.silo_threads.proofs.GoneOn.{none-refl}
+use Rattle.silo_threads.specs.Draining.{LooksInVain, ProducesNone, HasGoneOn, Looks}
+use Rattle.silo_threads.proofs.Rows.{zip-refl, zip-trans, zip-weaker}
+use Rattle.silo_threads.proofs.GoneOn.{none-refl, looked-none, none-trans}
+use Rattle.stream_model.specs.declared.reply.Pending.{Pending}
+use Rattle.silo_threads.proofs.Looking.{look-each}
 use Rattle.silo_threads.proofs.ending.draining.drain.Goals as goal
+
+-- one look more
+looks-none : (old now new : List QueuePass) (result : Result Quiet Refusal) → AllZip ProducesNone old now → AsksQuiet now result new → AllZip ProducesNone old new
+looks-none old now new result so_far asks =
+    zip-trans ProducesNone ProducesNone ProducesNone none-trans old now new so_far (look-each ProducesNone none-refl (λ answer p q one. looked-none p q answer one) now result new asks)
+
+none-on : (old new : List QueuePass) → AllZip ProducesNone old new → AllZip HasGoneOn old new
+none-on old new all = zip-weaker ProducesNone HasGoneOn (λ p q none. none.on) old new all
+
+-- the last look, with all that is said of it
+last-look : (looks made : ℕ) (result : Result Quiet Refusal) (old now new : List QueuePass) → made < looks → AllZip ProducesNone old now → LooksInVain made old now → AsksQuiet now result new
+    → AllZip ProducesNone old new × AllZip HasGoneOn old new × Looks looks result old new
+last-look looks made result old now new within so_far vain asks =
+    let none = looks-none old now new result so_far asks in
+    (none, none-on old new none, record { made = made; within = within; before = now; vain = vain; asks = asks })
+
+-- one look more in vain
+vain-more : (looks : ℕ) (queue : ℕ) (why : Pending) (end : Quiet) (old now new : List QueuePass) → end ≡ NotQuiet queue why → LooksInVain looks old now → AsksQuiet now (Ok end) new → LooksInVain (looks + 1) old new
+vain-more looks queue why end old now new is vain asks =
+    let next : suc looks ≡ looks + 1 = omega arith in
+    subst (λ n. LooksInVain n old new) next (now, vain, (queue, why, subst (λ (e : Quiet). AsksQuiet now (Ok e) new) is asks))
 
 pub loop-look-init : goal.loop-look-init
 loop-look-init g c = record { none = zip-refl ProducesNone none-refl c.args.caller.now; at = refl; vain = refl }

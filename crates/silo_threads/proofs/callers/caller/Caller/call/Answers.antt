@@ -1,9 +1,16 @@
-use Rattle.silo_threads.proofs.Prelude.{List, subst, sym}
+use Rattle.silo_threads.proofs.Prelude.{List, subst, sym, Reply, ◌≤◌, vec_capacity}
 use Rattle.stream_ident.specs.declared.event.Event.{Event}
-use Rattle.step_core.specs.Replied.{HasEvents}
-use Rattle.silo_threads.proofs.Showing.{has-events}
+use Rattle.step_core.specs.Replied.{HasEvents, Shows}
 use Rattle.silo_threads.proofs.Splitting.{turnstiles-set}
+use Rattle.std.specs.Global.{Vec}
+use Rattle.stream_ident.specs.declared.limits.TheConstants.{TURN_EVENTS}
+use Rattle.stream_model.specs.declared.reply.Reply.TheVariants as reply
 use Rattle.silo_threads.proofs.callers.caller.Caller.call.Goals as goal
+
+-- with room for sixteen, it has the events of the turn
+has-events : (old new : Vec Event) (r : Reply) → Shows old new r → TURN_EVENTS ≤ vec_capacity old → HasEvents r new.items
+has-events old new (reply.Turn sub activation turn events note) shows room = shows.0 room
+has-events old new _ shows room = tt
 
 pub returns-in_err-answer-clause-turnstiles : goal.returns-in_err-answer-clause-turnstiles
 returns-in_err-answer-clause-turnstiles g c =
