@@ -1,4 +1,3 @@
-pub mod Answered
 pub mod Begun
 pub mod Changing
 pub mod GoneOn
