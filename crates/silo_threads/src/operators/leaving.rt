@@ -21,8 +21,7 @@ fn deactivate<G: Gate, H: QueueHistory, R: Wait>(
     grain: &GrainId,
 ) -> Result<(), Halt>
     ensures on { LineGoesOn line.old line.new }
-    ensures nowhere { OnOk result (HasMovedNowhere line.old line.new) }
-    ensures done { OnOk result (HasSince line.old line.new (IsDeactivation grain.now)) }
+    ensures done { OnOk result (HasMovedNowhere line.old line.new × HasSince line.old line.new (IsDeactivation grain.now)) }
     ensures found { IfErr result (λ why. HasFound why line.new.pass) }
 {
     line.call(rt, alloc, doorbell, Op::Deactivate { grain: *grain })?;

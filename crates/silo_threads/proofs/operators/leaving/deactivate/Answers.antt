@@ -5,10 +5,10 @@ use Rattle.silo_threads.proofs.Making.{goes-called, made-called}
 use Rattle.silo_threads.proofs.operators.leaving.deactivate.Goals as goal
 
 pub returns-clause-done : goal.returns-clause-done
-returns-clause-done g c = made-called replied after (IsDeactivation c.args.grain.now) c.args.line.now.pass _ c.in_ok-call.field-0 c.call.new.self.pass c.in_ok-call.ensures.call refl
-
-pub returns-clause-nowhere : goal.returns-clause-nowhere
-returns-clause-nowhere g c = nowhere-called c.args.line.now _ c.in_ok-call.field-0 c.call.new.self c.in_ok-call.ensures refl
+returns-clause-done g c = (
+  nowhere-called c.args.line.now _ c.in_ok-call.field-0 c.call.new.self c.in_ok-call.ensures refl,
+  made-called replied after (IsDeactivation c.args.grain.now) c.args.line.now.pass _ c.in_ok-call.field-0 c.call.new.self.pass c.in_ok-call.ensures.call refl,
+)
 
 pub returns-in_err-call-clause-on : goal.returns-in_err-call-clause-on
 returns-in_err-call-clause-on g c = goes-called replied after c.args.line.now.pass _ c.call.result c.call.new.self.pass c.call.ensures.call

@@ -12,7 +12,7 @@ pub loop-queue-preserved : goal.loop-queue-preserved
 loop-queue-preserved g c =
     let long = goes-length _ _ c.loop-queue.invariant.on in
     since-more _ c.args.lines.now.items c.loop-queue.lines.items c.loop-queue.queue c.index_mut-line.result.now c.deactivate.new.line (first_of (omega (arith, c.loop-queue-test.true, c.len-queue-end.ensures, long), search rules, grind (arith, common_steps))) c.index_mut-line.ensures.value
-    c.deactivate.ensures.on (c.in_ok-deactivate.ensures.nowhere, c.in_ok-deactivate.ensures.done) c.loop-queue.invariant
+    c.deactivate.ensures.on c.in_ok-deactivate.ensures.done c.loop-queue.invariant
 
 pub returns-in_err-deactivate : goal.returns-in_err-deactivate
 returns-in_err-deactivate g c =
