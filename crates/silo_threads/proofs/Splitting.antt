@@ -11,9 +11,6 @@ module _ {O R S : Type 0} where
   split-alike : (p q : PassView O R S) → IsSplitOff p q → AreAlike p q
   split-alike p q split = ap (λ (w : PassView O R S). w.turnstile) split.0
 
-  joined-alike : (p q : PassView O R S) → HasOnlyJoined p q → AreAlike p q
-  joined-alike p q only = ap (λ (w : PassView O R S). w.turnstile) only.0
-
   pub split-unused : (p q : PassView O R S) → IsSplitOff p q → IsUnused q
   split-unused p q split = subst (λ (w : PassView O R S). IsUnused w) (sym split.0) (record { alone = refl; silent = split.2 })
 
@@ -59,9 +56,6 @@ module _ {O R S : Type 0} where
   only-joined : (p q w : PassView O R S) → q ≡ w → w ≡ record p { joined = w.joined; made = w.made } → q ≡ record p { joined = q.joined; made = q.made }
   only-joined p q w is only = subst (λ (z : PassView O R S). z ≡ record p { joined = z.joined; made = z.made }) (sym is) only
 
-  made-joined : (p q : PassView O R S) → HasOnlyMade p q → HasOnlyJoined p q
-  made-joined p q made = (only-joined p q (record p { made = q.made }) made.0 refl, made.1)
-
   back-joined : (p q : PassView O R S) → HasTakenBack p q → HasOnlyJoined p q
   back-joined p q back =
       let r = back.other in
@@ -74,7 +68,7 @@ module _ {O R S : Type 0} where
   back-each : (ps qs : List (PassView O R S)) → HaveTakenBack ps qs → AllZip HasOnlyJoined ps qs
   back-each [] qs back = subst (λ (ks : List (PassView O R S)). AllZip HasOnlyJoined [] ks) (sym back) tt
   back-each (p ∷ ps) [] back = absurd back
-  back-each (p ∷ ps) (q ∷ qs) (inl made) = (made-joined p q made.0, subst (λ (ks : List (PassView O R S)). AllZip HasOnlyJoined ps ks) (sym made.1) (zip-refl HasOnlyJoined (λ r. (refl, omega arith)) ps))
+  back-each (p ∷ ps) (q ∷ qs) (inl made) = ((only-joined p q (record p { made = q.made }) made.0.0 refl, made.0.1), subst (λ (ks : List (PassView O R S)). AllZip HasOnlyJoined ps ks) (sym made.1) (zip-refl HasOnlyJoined (λ r. (refl, omega arith)) ps))
   back-each (p ∷ ps) (q ∷ qs) (inr some) = (back-joined p q some.0, back-each ps qs some.1)
 
   pub none-back : (ps : List (PassView O R S)) → HaveTakenBack ps ps
@@ -137,7 +131,7 @@ module _ {O R S : Type 0} where
 pub takes-back : (old kept : List QueuePass) → HaveTakenBack old kept → TakesBack old kept
 takes-back old kept back =
     let each = back-each old kept back in
-    record { each = each; back = back; beside = all-beside HasOnlyJoined joined-alike old kept each }
+    record { each = each; back = back; beside = all-beside HasOnlyJoined (λ p q only. ap (λ (w : QueuePass). w.turnstile) only.0) old kept each }
 
 pub splits-off : (old new kept : List QueuePass) (at : ℕ) → length old ≤ at → kept ≡ old → length new ≡ at → AllZipFront IsSplitOff old new → SplitsOff old new kept
 splits-off old new kept at past same long front =
