@@ -61,10 +61,6 @@ module _ {H : Type 0} (entries : H → List (Entry Op Reply)) where
   Extends so_far last result =
       IfOk result (λ new. (passes : List QueuePass) (pass : QueuePass) → IsClosing entries passes so_far → IsEnd entries pass last → IsClosing entries (passes ++ pass ∷ []) new)
 
-  pub extends-in-use : (so_far : Closing H) (last : End H) (result : Result (Closing H) AllocError) → result ≡ Ok closing.InUse → Extends so_far last result
-  extends-in-use so_far last result is =
-      subst (λ (r : Result (Closing H) AllocError). Extends so_far last r) (sym is) (λ passes pass before ends. tt)
-
   -- a turnstile that is not in use had its end
   has-end : (p : QueuePass) (last : End H) → (last ≡ end.InUse → ⊥) → IsEnd entries p last → HasEnd p
   has-end p (end.Traced history partition) free ends = inl (record { history = entries history; partition = partition; trace = ends })
