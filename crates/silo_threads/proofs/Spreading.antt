@@ -1,14 +1,10 @@
 -- What an operator keeps.
-use Rattle.silo_threads.proofs.Prelude.{HasNoDoubles, goes-length, goes-refl, goes-some, on-refl, DirectoryPass, LineView, GoOn, sym, ◌≡◌, ◌≢◌, ℕ, List, [], ◌∷◌, ◌++◌, Contains, refl, ap, ◌∙◌, get_or_default}
+use Rattle.silo_threads.proofs.Prelude.{HasNoDoubles, goes-length, goes-refl, goes-some, on-refl, DirectoryPass, LineView, GoOn, sym, ◌≢◌, ℕ, List, [], ◌∷◌, ◌++◌, Contains, refl, ◌∙◌, get_or_default}
 use Rattle.std.proofs.lemmas.List.Quantifiers.{all_pairs_push}
 use Rattle.silo_threads.specs.Operators.{HasOnlyGoneOn, IsOperator, OperatorView}
 
 pub only-refl : (v : OperatorView) → HasOnlyGoneOn v v
 only-refl v = record { on = record { lines = goes-refl v.lines; directory = on-refl v.directory }; live = refl; assignment = refl }
-
--- an operator with the same passes
-pub same-passes : (v : OperatorView) (ls : List LineView) (d : DirectoryPass) → (ls ≡ v.lines) × (d ≡ v.directory) → record v { lines = ls; directory = d } ≡ v
-same-passes v ls d same = ap (λ (ms : List LineView). record v { lines = ms; directory = d }) same.0 ∙ ap (λ (e : DirectoryPass). record v { directory = e }) same.1
 
 -- an operator whose passes have seen more
 pub operator-on : (v : OperatorView) (ls : List LineView) (d : DirectoryPass) → IsOperator v → GoOn v.lines ls → IsOperator (record v { lines = ls; directory = d })
