@@ -1,11 +1,10 @@
 -- Lines whose passes make calls, one after another.
-use Rattle.silo_threads.proofs.Prelude.{after, replied, first-of-all, goes-refl, goes-set, goes-trans, on-trans, calls-number, owns-append, owns-foreign, CallsOn, DirectoryPass, LineView, QueuePass, OwnsNone, AreSilent, GoOn, GoesOn, LineGoesOn, LineIsSilent, ◌≡◌, ◌≢◌, ℕ, zero, suc, ◌<◌, ◌≤◌, ◌+◌, false, inl, inr, List, [], ◌∷◌, ◌++◌, append_assoc, drop, length, get_or, set, Some, Result, Ok, Err, refl, sym, ap, subst, ◌∙◌, arith, drop-append_seam, drop-append-le, slice_get-get_or, slice_get_within, Reply, Op, numbers_of, silent-refl, entry, Entry, Refusal}
+use Rattle.silo_threads.proofs.Prelude.{after, replied, first-of-all, goes-refl, goes-set, goes-trans, on-trans, calls-number, owns-append, owns-foreign, CallsOn, DirectoryPass, LineView, QueuePass, OwnsNone, AreSilent, GoOn, GoesOn, LineGoesOn, LineIsSilent, ◌≡◌, ◌≢◌, ℕ, zero, suc, ◌<◌, ◌≤◌, ◌+◌, false, inl, inr, List, [], ◌∷◌, ◌++◌, append_assoc, drop, length, get_or, set, Some, Result, Ok, Err, refl, sym, ap, subst, ◌∙◌, arith, drop-append_seam, drop-append-le, slice_get-get_or, slice_get_within, Reply, Op, numbers_of, entry, Entry, Refusal}
 use Rattle.std.proofs.Math.ListN.{length-set}
 use Rattle.std.proofs.lemmas.List.{get_or-set_same}
 use Rattle.std.proofs.lemmas.Option.{slice_get_read}
 use Rattle.std.specs.List.{slice_get}
 use Rattle.stream_ident.specs.declared.ident.GrainId.{GrainId}
-use Rattle.stream_ident.specs.declared.token.Token.{Token}
 use Rattle.stream_model.specs.declared.op.Op.TheVariants as op
 use Rattle.stream_model.specs.declared.reply.Reply.TheVariants as reply
 use Rattle.activation_directory.specs.declared.op.DirectoryOp.TheVariants as asked
@@ -17,10 +16,10 @@ use Rattle.silo_threads.specs.declared.operators.halt.Halt.{Halt}
 use Rattle.silo_threads.specs.declared.operators.halt.Halt.TheVariants as halt
 use Rattle.silo_threads.specs.declared.operators.leaving.Release.{Release}
 use Rattle.silo_threads.specs.declared.operators.leaving.Release.TheVariants as release
-use Rattle.silo_threads.specs.Changes.{AreDeactivated, AtEachQueue, HasFound, HasMade, HasSince, HasMovedNowhere, HaveMovedNowhere, HaveOnlySeen, HaveStayed, HoldsGrains, IsAtSilo, IsDeactivated, IsDeactivation, IsMove, IsNoneLeft, IsRelease, IsSpentMove, IsUnmoved, LineHasOnlySeen, Releases, halt_of, is_move}
+use Rattle.silo_threads.specs.Changes.{AreDeactivated, AtEachQueue, HasFound, HasMade, HasSince, HasMovedNowhere, HaveMovedNowhere, HaveOnlySeen, HaveStayed, HoldsGrains, IsDeactivated, IsDeactivation, IsMove, IsNoneLeft, IsRelease, IsSpentMove, IsUnmoved, LineHasOnlySeen, Releases, halt_of, is_move}
 use Rattle.silo_threads.specs.Operators.{OperatorGoesOn, OperatorView}
 use Rattle.silo_threads.proofs.Rows.{zip-at, zip-both, zip-refl}
-use Rattle.silo_threads.proofs.Making.{called-last, found-refused, goes-called, goes-longer, made-called, made-cases, made-earlier, made-later, made-none, made-refused, owns-fewer}
+use Rattle.silo_threads.proofs.Making.{found-refused, goes-called, goes-longer, made-called, made-cases, made-earlier, made-later, made-none, made-refused, owns-fewer}
 
 pub get-here : (ls : List LineView) (at : ℕ) (m : LineView) → at < length ls → slice_get (set ls at m) at ≡ Some m
 get-here ls at m within = slice_get_read (set ls at m) (length ls) at m (sym (length-set ls at m)) within (sym (get_or-set_same ls at m m within))
@@ -94,7 +93,7 @@ nowhere-called l o r m calls other =
     let own = owns-append is_move (l.pass.number ∷ []) between (last ∷ []) others ((λ here. other), tt) in
     nowhere-more l m (between ++ last ∷ []) (calls.call.call.1 ∙ append_assoc l.pass.seen between (last ∷ [])) (subst (λ n. OwnsNone is_move (n ∷ []) (between ++ last ∷ [])) (sym number) own)
 
-nowhere-silent : (l m : LineView) → LineIsSilent l m → HasMovedNowhere l m
+pub nowhere-silent : (l m : LineView) → LineIsSilent l m → HasMovedNowhere l m
 nowhere-silent l m silent =
     nowhere-more l m silent.on.more silent.on.seen (subst (λ n. OwnsNone is_move (n ∷ []) silent.on.more) (sym silent.on.number) (owns-foreign is_move (l.pass.number ∷ []) silent.on.more silent.foreign))
 
@@ -119,14 +118,6 @@ pub stayed-earlier : (old new fresh : List LineView) (before now : List ℕ) →
 stayed-earlier old new fresh before now on on2 nowhere stayed queue was is had has same =
     let middle = zip-at LineGoesOn new fresh queue is on2 has in
     nowhere-both was middle.0 is (zip-both LineGoesOn old new queue was middle.0 on had middle.1) middle.2 (nowhere queue was middle.0 had middle.1) (stayed queue middle.0 is middle.1 has same)
-
--- a queue that has the silo that it had, where nothing was done, and one that was just moved
-pub at-same : (before now : ℕ) (l : LineView) → now ≡ before → IsAtSilo before now l l
-at-same before now l same = ((λ other. absurd (other same)), λ again. nowhere-silent l l (silent-refl l.pass))
-
-pub at-other : (before now : ℕ) (l : LineView) (r : Reply) (m : LineView) → (now ≡ before → ⊥) → CallsOn l (op.Move now) (Ok r) m → (generation : ℕ) × (low : Token) × (r ≡ reply.Moved generation low) → IsAtSilo before now l m
-at-other before now l r m other calls moved =
-    ((λ differs. called-last replied after is_move (IsMove now) l.pass (op.Move now) r m.pass calls.call (refl, moved)), λ same. absurd (other same))
 
 -- a Move that was answered Spent, and one that was refused
 pub unmoved-spent : (l : LineView) (silo : ℕ) (m : LineView) → CallsOn l (op.Move silo) (Ok reply.Spent) m → IsUnmoved halt.Limit silo l m

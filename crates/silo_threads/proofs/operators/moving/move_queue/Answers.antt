@@ -1,19 +1,20 @@
-use Rattle.silo_threads.proofs.Prelude.{after, replied, on-refl, CallsOn, ◌≢◌, ◌∙◌, Ok, refl, subst, sym, Reply}
+use Rattle.silo_threads.proofs.Prelude.{after, replied, on-refl, silent-refl, CallsOn, ◌≢◌, ◌∙◌, Ok, refl, subst, sym, Reply}
 use Rattle.stream_model.specs.declared.op.Op.TheVariants as op
 use Rattle.silo_threads.specs.declared.operators.halt.Halt.{Halt}
-use Rattle.silo_threads.specs.Changes.{IsUnmoved, halt_of}
-use Rattle.silo_threads.proofs.Changing.{at-other, at-same, unmoved-refused, unmoved-spent}
-use Rattle.silo_threads.proofs.Making.{called-reply, goes-called, passed-on}
+use Rattle.silo_threads.specs.Changes.{IsMove, IsUnmoved, halt_of, is_move}
+use Rattle.silo_threads.proofs.Changing.{nowhere-silent, unmoved-refused, unmoved-spent}
+use Rattle.silo_threads.proofs.Making.{called-last, called-reply, goes-called, passed-on}
 use Rattle.silo_threads.proofs.Replies.{MovesOrSpent, move-replies, moved-reply, spent-reply}
 use Rattle.silo_threads.proofs.operators.moving.move_queue.Goals as goal
 
 pub returns-then-from-to-clause-moved : goal.returns-then-from-to-clause-moved
-returns-then-from-to-clause-moved g c = at-same c.args.from c.args.to c.args.line.now (sym c.if-from-to.true)
+returns-then-from-to-clause-moved g c = ((λ other. absurd (other (sym c.if-from-to.true))), λ same. nowhere-silent c.args.line.now c.args.line.now (silent-refl c.args.line.now.pass))
 
 pub returns-in-Some-clause-moved : goal.returns-in-Some-clause-moved
 returns-in-Some-clause-moved g c =
     let moved = moved-reply c.in_ok-answer.answer c.in-Some.generation (sym c.moved_of.ensures ∙ c.in-Some.is) in
-    at-other c.args.from c.args.to c.args.line.now c.in_ok-answer.answer c.call.new.self (λ same. c.if-from-to.false (sym same)) c.in_ok-answer.ensures (c.in-Some.generation, moved.0, moved.1)
+    ((λ other. called-last replied after is_move (IsMove c.args.to) c.args.line.now.pass (op.Move c.args.to) c.in_ok-answer.answer c.call.new.self.pass c.in_ok-answer.ensures.call (refl, c.in-Some.generation, moved.0, moved.1)),
+    λ same. absurd (c.if-from-to.false (sym same)))
 
 pub returns-in_err-answer-clause-unmoved : goal.returns-in_err-answer-clause-unmoved
 returns-in_err-answer-clause-unmoved g c =
