@@ -138,15 +138,13 @@ unmoved-refused l silo e m calls = (
 
 -- calls that were made at each queue since are so later, and so they are since what was before
 pub each-later : (P : Op → Reply → Type 0) (old new fresh : List LineView) → GoOn old new → GoOn new fresh → AtEachQueue old new (λ k was is. HasSince was is P) → AtEachQueue old fresh (λ k was is. HasSince was is P)
-each-later P old new fresh on on2 each =
-    λ k was is a b.
+each-later P old new fresh on on2 each k was is a b =
     let middle = zip-at LineGoesOn new fresh k is on2 b in
     let goes = zip-both LineGoesOn old new k was middle.0 on a middle.1 in
     made-later P (length was.pass.seen) middle.0.pass is.pass middle.2 (goes-longer was.pass middle.0.pass goes) (each k was middle.0 a middle.1)
 
 pub each-earlier : (P : Op → Reply → Type 0) (old new fresh : List LineView) → GoOn old new → GoOn new fresh → AtEachQueue new fresh (λ k was is. HasSince was is P) → AtEachQueue old fresh (λ k was is. HasSince was is P)
-each-earlier P old new fresh on on2 each =
-    λ k was is a b.
+each-earlier P old new fresh on on2 each k was is a b =
     let middle = zip-at LineGoesOn new fresh k is on2 b in
     let goes = zip-both LineGoesOn old new k was middle.0 on a middle.1 in
     made-earlier P (length was.pass.seen) (length middle.0.pass.seen) is.pass (goes-longer was.pass middle.0.pass goes) (each k middle.0 is middle.1 b)
@@ -154,8 +152,7 @@ each-earlier P old new fresh on on2 each =
 -- a silo's grains leave, one after another
 pub one-gone : (silo : ℕ) (d e f : DirectoryPass) (old new fresh : List LineView) (other : GrainId) → GoesOn d e → Releases silo e (Ok (release.Grain other)) f → GoOn old new → GoOn new fresh → IsDeactivated new fresh other
     → AreDeactivated silo d e old new → AreDeactivated silo d f old fresh
-one-gone silo d e f old new fresh other on calls lines lines2 done before =
-    λ grain made.
+one-gone silo d e f old new fresh other on calls lines lines2 done before grain made =
     elim (made-cases places.replied places.after (IsRelease silo grain) (length d.seen) e (asked.Down silo) (directory.Released other calls.0) f calls.1 (goes-longer d e on) made) as (λ s. IsDeactivated old fresh grain) [
       | inl earlier ↦ each-later (IsDeactivation grain) old new fresh lines lines2 (before grain earlier)
       | inr is ↦

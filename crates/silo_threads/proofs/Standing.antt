@@ -73,8 +73,7 @@ same-at lines d s t at ran =
 
 -- what was moved since is moved since what was before
 moved-earlier : (old new fresh : List LineView) (before now : List ℕ) → GoOn old new → GoOn new fresh → HaveMoved new fresh before now → HaveMoved old fresh before now
-moved-earlier old new fresh before now on on2 moved =
-    λ k was is a b differs.
+moved-earlier old new fresh before now on on2 moved k was is a b differs =
     let middle = zip-at LineGoesOn new fresh k is on2 b in
     let goes = zip-both LineGoesOn old new k was middle.0 on a middle.1 in
     last-earlier is_move (IsMove (slice_index now k)) (length was.pass.seen) (length middle.0.pass.seen) is.pass (goes-longer was.pass middle.0.pass goes) (moved k middle.0 is middle.1 b differs)
