@@ -1,5 +1,5 @@
 -- The ends of turnstiles, one after another.
-use Rattle.silo_threads.proofs.Prelude.{BeganEmpty, after, replied, QueuePass, ◌≡◌, ◌≢◌, ℕ, zero, suc, ◌+◌, ◌≤◌, inl, inr, List, [], ◌∷◌, ◌++◌, length, map, Result, Ok, IfOk, refl, sym, subst, append-nil, AllPairs, AllocError, All-push, Reply, Op, PlainPartition, IsOf, numbers_of, FromAll, all_numbers, Own, Origin, Entry}
+use Rattle.silo_threads.proofs.Prelude.{BeganEmpty, after, replied, QueuePass, ◌≡◌, ◌≢◌, ℕ, zero, suc, ◌+◌, ◌≤◌, inl, inr, List, [], ◌∷◌, ◌++◌, length, map, Result, Ok, IfOk, refl, sym, subst, ◌∙◌, append-nil, AllPairs, AllocError, All-push, Reply, Op, PlainPartition, IsOf, numbers_of, FromAll, all_numbers, Own, Origin, Entry}
 use Rattle.stream_laws.specs.Laws.{OneHistory}
 use Rattle.shared_partition.proofs.Partitions.{legal-leaves, legal-tells}
 use Rattle.silo_threads.specs.declared.ending.closing.Closing.{Closing}
@@ -8,35 +8,29 @@ use Rattle.silo_threads.specs.declared.ending.closing.End.{End}
 use Rattle.silo_threads.specs.declared.ending.closing.End.TheVariants as end
 use Rattle.silo_threads.specs.Closing.{AreTraces, HasEnd, IsClosing, IsEnd, IsMissing, IsMissingFirst, IsTraceOf}
 
--- a turnstile that was closed with one pass
-closed-trace : (t : Origin PlainPartition) (p : QueuePass) (history : List (Entry Op Reply)) (partition : PlainPartition) → OneHistory → IsOf t p → BeganEmpty t.start
-    → FromAll replied after (λ (s : PlainPartition). s) t.start (p ∷ []) history partition → IsTraceOf p history partition
-closed-trace t p history partition law of empty all =
-    let numbers : all_numbers (p ∷ []) ≡ numbers_of p = append-nil (numbers_of p) in
-    let most : p.made ≤ length (all_numbers (p ∷ [])) = all.most.0 in
-    record {
-      origin = t;
-      of = of;
-      empty = empty;
-      whole = elim all.longest as (λ w. history ≡ p.seen) [ inl same ↦ sym same | inr none ↦ absurd none ];
-      bounded = all.bounded;
-      own = subst (λ ks. Own ks history) numbers all.own;
-      differ = subst (λ ks. AllPairs (λ one other. one ≢ other) ks) numbers all.differ;
-      most = subst (λ ks. p.made ≤ length ks) numbers most;
-      legal = all.legal;
-      partition_is = all.object_is;
-      headline = legal-tells t.start history law empty all.legal;
-      stands = legal-leaves t.start history all.legal;
-    }
-
--- the same, as the parts of it are named where it is closed
+-- a turnstile that was closed with one pass, as the parts of it are named where it is closed
 pub queue-trace : (was t : Origin PlainPartition) (p q : QueuePass) (ps : List QueuePass) (history : List (Entry Op Reply)) (object partition : PlainPartition) → OneHistory → p ≡ q → IsOf was p → BeganEmpty was.start → t ≡ was → ps ≡ p ∷ []
     → FromAll replied after (λ (s : PlainPartition). s) t.start ps history object → partition ≡ object → IsTraceOf q history partition
 queue-trace was t p q ps history object partition law same of empty here alone all is =
     let at_start = subst (λ (o : Origin PlainPartition). FromAll replied after (λ (s : PlainPartition). s) o.start ps history object) here all in
-    let of_one = subst (λ (es : List QueuePass). FromAll replied after (λ (s : PlainPartition). s) was.start es history object) alone at_start in
+    let one : FromAll replied after (λ (s : PlainPartition). s) was.start (p ∷ []) history object = subst (λ (es : List QueuePass). FromAll replied after (λ (s : PlainPartition). s) was.start es history object) alone at_start in
+    let numbers : all_numbers (p ∷ []) ≡ numbers_of p = append-nil (numbers_of p) in
+    let most : p.made ≤ length (all_numbers (p ∷ [])) = one.most.0 in
     subst (λ (e : QueuePass). IsTraceOf e history partition) same
-    (subst (λ (e : PlainPartition). IsTraceOf p history e) (sym is) (closed-trace was p history object law of empty of_one))
+    (record {
+      origin = was;
+      of = of;
+      empty = empty;
+      whole = elim one.longest as (λ w. history ≡ p.seen) [ inl same ↦ sym same | inr none ↦ absurd none ];
+      bounded = one.bounded;
+      own = subst (λ ks. Own ks history) numbers one.own;
+      differ = subst (λ ks. AllPairs (λ one other. one ≢ other) ks) numbers one.differ;
+      most = subst (λ ks. p.made ≤ length ks) numbers most;
+      legal = one.legal;
+      partition_is = is ∙ one.object_is;
+      headline = legal-tells was.start history law empty one.legal;
+      stands = legal-leaves was.start history one.legal;
+    })
 
 -- one more queue behind
 pub missing-more : (queue missing : ℕ) (ps : List QueuePass) (p : QueuePass) → IsMissingFirst queue missing ps → HasEnd p → IsMissingFirst queue missing (ps ++ p ∷ [])
