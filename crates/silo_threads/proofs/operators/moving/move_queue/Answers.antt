@@ -12,9 +12,10 @@ returns-then-from-to-clause-moved g c = ((λ other. absurd (other (sym c.if-from
 
 pub returns-in-Some-clause-moved : goal.returns-in-Some-clause-moved
 returns-in-Some-clause-moved g c =
-    let moved = moved-reply c.in_ok-answer.answer c.in-Some.generation (sym c.moved_of.ensures ∙ c.in-Some.is) in
-    ((λ other. called-last replied after is_move (IsMove c.args.to) c.args.line.now.pass (op.Move c.args.to) c.in_ok-answer.answer c.call.new.self.pass c.in_ok-answer.ensures.call (refl, c.in-Some.generation, moved.0, moved.1)),
-    λ same. absurd (c.if-from-to.false (sym same)))
+    let moved = moved-reply c.in_ok-answer.answer c.in-Some.generation (sym c.moved_of.ensures ∙ c.in-Some.is) in (
+      (λ other. called-last replied after is_move (IsMove c.args.to) c.args.line.now.pass (op.Move c.args.to) c.in_ok-answer.answer c.call.new.self.pass c.in_ok-answer.ensures.call (refl, c.in-Some.generation, moved.0, moved.1)),
+      λ same. absurd (c.if-from-to.false (sym same)),
+    )
 
 pub returns-in_err-answer-clause-unmoved : goal.returns-in_err-answer-clause-unmoved
 returns-in_err-answer-clause-unmoved g c =

@@ -16,7 +16,7 @@ pub returns-clause-same : goal.returns-clause-same
 returns-clause-same g c =
     let inside : OperatorView = record { lines = c.self.inside.lines.items; directory = c.self.inside.directory; live = c.self.inside.live.items; assignment = c.self.inside.assignment.items } in
     subst (λ (v : OperatorView). OnOk c.new.result (record inside { lines = c.new.new.lines.items; directory = c.new.new.directory } ≡ v)) c.self.view_is
-    (on_ok_weaker c.new.result (λ (same : (c.new.new.lines.items ≡ c.self.inside.lines.items) × (c.new.new.directory ≡ c.self.inside.directory)). 
+    (on_ok_weaker c.new.result (λ (same : (c.new.new.lines.items ≡ c.self.inside.lines.items) × (c.new.new.directory ≡ c.self.inside.directory)).
     ap (λ (ls : List LineView). record inside { lines = ls; directory = c.new.new.directory }) same.0 ∙ ap (λ (d : DirectoryPass). record inside { directory = d }) same.1) c.new.ensures.same)
 
 pub returns-clause-split : goal.returns-clause-split
