@@ -9,6 +9,5 @@ pub mod Rows
 pub mod Splitting
 pub mod Spreading
 pub mod Standing
-pub mod Taking
 pub mod Tracing
 pub mod Prelude
