@@ -4,7 +4,6 @@ pub mod GoneOn
 pub mod Looking
 pub mod Making
 pub mod Places
-pub mod Replies
 pub mod Rows
 pub mod Splitting
 pub mod Spreading

@@ -1,9 +1,25 @@
-use Rattle.silo_threads.proofs.Prelude.{inl, inr, ◌∙◌}
+use Rattle.silo_threads.proofs.Prelude.{◌≡◌, ◌⊎◌, ℕ, Option, Some, None, inl, inr, refl, ◌∙◌}
+use Rattle.stream_ident.specs.declared.ident.GrainId.{GrainId}
 use Rattle.activation_directory.specs.declared.op.DirectoryOp.TheVariants as asked
+use Rattle.activation_directory.specs.declared.reply.DirectoryReply.{DirectoryReply}
+use Rattle.activation_directory.specs.declared.reply.DirectoryReply.TheVariants as directory
+use Rattle.activation_directory.specs.Placed.{least_on}
+use Rattle.activation_directory.specs.Plain.{PlainDirectory}
+use Rattle.activation_directory.specs.Step as plain
 use Rattle.shared_partition.specs.Directories.{after, replied}
 use Rattle.silo_threads.proofs.Making.{called-reply}
-use Rattle.silo_threads.proofs.Replies.{down-replies}
 use Rattle.silo_threads.proofs.operators.leaving.take_grain.Goals as goal
+
+-- what the directory answers to Down
+abbrev ReleasesOrNone : DirectoryReply → Type 0
+ReleasesOrNone r = (r ≡ directory.NoneLeft) ⊎ ((grain : GrainId) × (left : ℕ) × (r ≡ directory.Released grain left))
+
+down-replies-by : (d : PlainDirectory) (silo : ℕ) (least : Option GrainId) → ReleasesOrNone (plain.down d silo least).1
+down-replies-by d silo None = inl refl
+down-replies-by d silo (Some grain) = inr (grain, _, refl)
+
+down-replies : (d : PlainDirectory) (silo : ℕ) → ReleasesOrNone (replied d (asked.Down silo))
+down-replies d silo = down-replies-by d silo (least_on silo d.placed)
 
 pub unreachable-requires : goal.unreachable-requires
 unreachable-requires g c =

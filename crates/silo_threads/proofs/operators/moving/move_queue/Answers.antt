@@ -1,11 +1,37 @@
-use Rattle.silo_threads.proofs.Prelude.{after, replied, on-refl, silent-refl, CallsOn, ◌≢◌, ◌∙◌, Ok, refl, subst, sym, Reply}
+use Rattle.silo_threads.proofs.Prelude.{after, replied, on-refl, silent-refl, CallsOn, ◌≡◌, ◌≢◌, ◌⊎◌, ◌∙◌, ℕ, Bool, true, false, if◌then◌else◌, Some, None, Ok, inl, inr, refl, ap, subst, sym, none-some, unwrap_or, Reply, PlainPartition}
+use Rattle.stream_ident.specs.declared.token.Token.{Token}
 use Rattle.stream_model.specs.declared.op.Op.TheVariants as op
+use Rattle.stream_model.specs.declared.reply.Reply.TheVariants as reply
+use Rattle.stream_ident.specs.Words.{least_with}
+use Rattle.stream_model.specs.Positions.{is_spent, open_resumes}
+use Rattle.stream_model.specs.Pulling.{move, move_to}
+use Rattle.stream_model.specs.Step.{step}
 use Rattle.silo_threads.specs.declared.operators.halt.Halt.{Halt}
-use Rattle.silo_threads.specs.Changes.{IsMove, IsUnmoved, halt_of, is_move}
+use Rattle.silo_threads.specs.Changes.{IsMove, IsUnmoved, halt_of, is_move, moved_of}
 use Rattle.silo_threads.proofs.Changing.{nowhere-silent, unmoved-refused, unmoved-spent}
 use Rattle.silo_threads.proofs.Making.{called-last, called-reply, goes-called, passed-on}
-use Rattle.silo_threads.proofs.Replies.{MovesOrSpent, move-replies, moved-reply, spent-reply}
 use Rattle.silo_threads.proofs.operators.moving.move_queue.Goals as goal
+
+-- what a queue answers to a Move
+abbrev MovesOrSpent : Reply → Type 0
+MovesOrSpent r = (r ≡ reply.Spent) ⊎ ((generation : ℕ) × (low : Token) × (r ≡ reply.Moved generation low))
+
+either : (b : Bool) (x y : PlainPartition × Reply) → MovesOrSpent x.1 → MovesOrSpent y.1 → MovesOrSpent (if b then x else y).1
+either true x y first second = first
+either false x y first second = second
+
+move-replies : (p : PlainPartition) (silo : ℕ) → MovesOrSpent (replied p (op.Move silo))
+unfolding step move move_to
+move-replies p silo = either (is_spent p) (p, reply.Spent) (move_to p silo (least_with p.high (open_resumes p))) (inl refl) (inr (_, _, refl))
+
+-- the reply from which a new generation is taken, and the one from which none is
+moved-reply : (r : Reply) (generation : ℕ) → moved_of r ≡ Some generation → (low : Token) × (r ≡ reply.Moved generation low)
+moved-reply (reply.Moved g low) generation is = (low, ap (λ (k : ℕ). reply.Moved k low) (ap (λ o. unwrap_or o g) is))
+moved-reply _ generation is = absurd (none-some generation is)
+
+spent-reply : (r : Reply) → MovesOrSpent r → moved_of r ≡ None → r ≡ reply.Spent
+spent-reply r (inl spent) is = spent
+spent-reply r (inr (g, low, same)) is = absurd (none-some g (sym is ∙ ap (λ (x : Reply). moved_of x) same))
 
 pub returns-then-from-to-clause-moved : goal.returns-then-from-to-clause-moved
 returns-then-from-to-clause-moved g c = ((λ other. absurd (other (sym c.if-from-to.true))), λ same. nowhere-silent c.args.line.now c.args.line.now (silent-refl c.args.line.now.pass))
