@@ -131,7 +131,7 @@ module _ {O R S : Type 0} where
 pub takes-back : (old kept : List QueuePass) → HaveTakenBack old kept → TakesBack old kept
 takes-back old kept back =
     let each = back-each old kept back in
-    record { each = each; back = back; beside = all-beside HasOnlyJoined (λ p q only. ap (λ (w : QueuePass). w.turnstile) only.0) old kept each }
+    record { each = each; back = back; beside = all-beside HasOnlyJoined (λ (p q : QueuePass) (only : HasOnlyJoined p q). ap (λ (w : QueuePass). w.turnstile) only.0) old kept each }
 
 pub splits-off : (old new kept : List QueuePass) (at : ℕ) → length old ≤ at → kept ≡ old → length new ≡ at → AllZipFront IsSplitOff old new → SplitsOff old new kept
 splits-off old new kept at past same long front =
