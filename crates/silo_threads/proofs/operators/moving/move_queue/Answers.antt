@@ -39,7 +39,7 @@ returns-then-from-to-clause-moved g c = ((λ other. absurd (other (sym c.if-from
 pub returns-in-Some-clause-moved : goal.returns-in-Some-clause-moved
 returns-in-Some-clause-moved g c =
     let moved = moved-reply c.in_ok-answer.answer c.in-Some.generation (sym c.moved_of.ensures ∙ c.in-Some.is) in (
-      (λ other. called-last replied after is_move (IsMove c.args.to) c.args.line.now.pass (op.Move c.args.to) c.in_ok-answer.answer c.call.new.self.pass c.in_ok-answer.ensures.call (refl, c.in-Some.generation, moved.0, moved.1)),
+      (λ other. called-last replied after is_move (IsMove c.args.to) c.args.line.now.pass (op.Move c.args.to) c.in_ok-answer.answer c.call.new.self.pass c.in_ok-answer.ensures.call (refl, (c.in-Some.generation, moved.0, moved.1))),
       λ same. absurd (c.if-from-to.false (sym same)),
     )
 
@@ -57,13 +57,13 @@ returns-clause-unmoved g c =
     ((λ same. c.if-from-to.false (sym same)), unmoved-spent c.args.line.now c.args.to c.call.new.self (subst (λ (r : Reply). CallsOn c.args.line.now (op.Move c.args.to) (Ok r) c.call.new.self) spent calls))
 
 pub returns-then-from-to-clause-kept : goal.returns-then-from-to-clause-kept
-returns-then-from-to-clause-kept g c = (on-refl c.args.line.now.pass, refl, refl)
+returns-then-from-to-clause-kept g c = (on-refl c.args.line.now.pass, (refl, refl))
 
 pub returns-in_err-answer-clause-kept : goal.returns-in_err-answer-clause-kept
-returns-in_err-answer-clause-kept g c = (goes-called replied after c.args.line.now.pass _ c.call.result c.call.new.self.pass c.call.ensures.call, c.call.ensures.mark, c.call.ensures.call.only)
+returns-in_err-answer-clause-kept g c = (goes-called replied after c.args.line.now.pass _ c.call.result c.call.new.self.pass c.call.ensures.call, (c.call.ensures.mark, c.call.ensures.call.only))
 
 pub returns-in-Some-clause-kept : goal.returns-in-Some-clause-kept
-returns-in-Some-clause-kept g c = (goes-called replied after c.args.line.now.pass _ c.call.result c.call.new.self.pass c.call.ensures.call, c.call.ensures.mark, c.call.ensures.call.only)
+returns-in-Some-clause-kept g c = (goes-called replied after c.args.line.now.pass _ c.call.result c.call.new.self.pass c.call.ensures.call, (c.call.ensures.mark, c.call.ensures.call.only))
 
 pub returns-clause-kept : goal.returns-clause-kept
-returns-clause-kept g c = (goes-called replied after c.args.line.now.pass _ c.call.result c.call.new.self.pass c.call.ensures.call, c.call.ensures.mark, c.call.ensures.call.only)
+returns-clause-kept g c = (goes-called replied after c.args.line.now.pass _ c.call.result c.call.new.self.pass c.call.ensures.call, (c.call.ensures.mark, c.call.ensures.call.only))
