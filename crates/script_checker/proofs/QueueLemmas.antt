@@ -53,10 +53,8 @@ queues-named summary None = refl
 queues-named summary (Some stream) = refl
 
 or_else-twice : {A : Type 0} (found : Option A) (x : A) (a b : Bool) → or_else (or_else found (cond a (Some x) None)) (cond b (Some x) None) ≡ or_else found (cond (a || b) (Some x) None)
-or_else-twice None x true true = refl
-or_else-twice None x true false = refl
-or_else-twice None x false true = refl
-or_else-twice None x false false = refl
+or_else-twice None x true b = refl
+or_else-twice None x false b = refl
 or_else-twice (Some y) x a b = refl
 
 pub queues_all : (commands : List Command) (summary : PlainSummary) (stream : StreamId)

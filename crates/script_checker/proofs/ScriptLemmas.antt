@@ -1,5 +1,5 @@
 -- A check of a script, line by line.
-use Rattle.script_checker.proofs.Prelude.{◌≡◌, ◌∙◌, ℕ, ◌+◌, ◌-◌, Bool, true, false, List, [], ◌∷◌, ◌++◌, Result, Ok, Err, ap, refl, subst, sym, length, drop, get_or, arith, append_assoc, if◌then◌else◌, drop-drop, get_or-drop, map-append, All, Command, Mode}
+use Rattle.script_checker.proofs.Prelude.{◌≡◌, ◌∙◌, ℕ, ◌+◌, ◌-◌, Bool, false, List, [], ◌∷◌, ◌++◌, Result, Err, ap, refl, subst, sym, length, drop, get_or, arith, append_assoc, if◌then◌else◌, drop-drop, get_or-drop, map-append, All, Command, Mode}
 use Rattle.std.proofs.lemmas.List.Elements.{All-append, All-push}
 use Rattle.stream_script.specs.declared.parser.command.Fault.{Fault}
 use Rattle.stream_script.specs.declared.parser.command.FaultKind.{FaultKind}
@@ -17,18 +17,16 @@ use Rattle.script_checker.specs.Summaries.{empty}
 
 -- a fault has the number of the line that was read
 fault_of_line : (line : ℕ) (skipped : Bool) (command : Result Command FaultKind) (fault : Fault) → parsed.Fault fault ≡ (if skipped then parsed.Skip else parser.parsed_of line command) → fault.line ≡ line
-fault_of_line line true command fault e = cc
-fault_of_line line false (Ok command) fault e = cc
 fault_of_line line false (Err kind) fault e = cc
+fault_of_line line _ _ fault e = cc
 
 fault_of_reading : (queues : ℕ) (mode : Mode) (line : ℕ) (bytes : List ℕ) (fault : Fault) → parsed.Fault fault ≡ reading queues mode line bytes → fault.line ≡ line
 unfolding reading
 fault_of_reading queues mode line bytes fault e = fault_of_line line (is_skipped bytes) (line_command mode queues bytes) fault e
 
 told-placed : (checked : Checked) → told_of (placed_in checked) ≡ fault_in (parsed_of checked)
-told-placed (checked.Command command) = refl
-told-placed checked.Skip = refl
 told-placed (checked.Fault fault) = refl
+told-placed _ = refl
 
 -- what was found before the rest of all lines, the last of which has this number
 pub record Found (queues : ℕ) (mode : Mode) (all : List (List ℕ)) (last : ℕ) (rest : List (List ℕ)) (found : Findings) : Type 0 where
@@ -41,8 +39,6 @@ pub record Found (queues : ℕ) (mode : Mode) (all : List (List ℕ)) (last : �
 module _ (queues : ℕ) (mode : Mode) (all : List (List ℕ)) (last : ℕ) (line : List ℕ) (rest : List (List ℕ)) (found : Findings) (was : Found queues mode all last (line ∷ rest) found) where
   -- a fault of the line stands in it
   placed-here : (checked : Checked) → parsed_of checked ≡ reading queues mode (last + 1) line → IsPlaced line checked → All (IsPlacedIn all) (placed_in checked)
-  placed-here (checked.Command command) is placed = λ k d below. absurd (omega arith)
-  placed-here checked.Skip is placed = λ k d below. absurd (omega arith)
   placed-here (checked.Fault fault) is placed =
       let number : fault.fault.line ≡ last + 1 = fault_of_reading queues mode (last + 1) line fault.fault is in
       let place : last + 0 ≡ fault.fault.line - 1 = omega (arith, number) in
@@ -54,6 +50,7 @@ module _ (queues : ℕ) (mode : Mode) (all : List (List ℕ)) (last : ℕ) (line
         within = omega (arith, number, was.number);
         placed = subst (λ (bytes : List ℕ). IsPlacedFault bytes fault) here placed;
       }
+  placed-here _ is placed = λ k d below. absurd (omega arith)
 
   pub goes_on : (checked : Checked) (new : Findings) → parsed_of checked ≡ reading queues mode (last + 1) line → IsPlaced line checked → new.faults.items ≡ found.faults.items ++ placed_in checked
       → new.summary ≡ noted_in found.summary (parsed_of checked) → Found queues mode all (last + 1) rest new

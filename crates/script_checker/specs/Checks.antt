@@ -37,10 +37,8 @@ BeginsWith line word = (pieces : List Piece) × IsLineOf line (Word word ∷ pie
 -- a command is written with the word of its verb in front
 abbrev pub HasVerb : List ℕ → Checked → Type 0
 HasVerb line (checked.Command command) = BeginsWith line (word_of (verb_in command))
-HasVerb line checked.Skip = ⊤
-HasVerb line (checked.Fault fault) = ⊤
+HasVerb line _ = ⊤
 
 abbrev pub IsPlaced : List ℕ → Checked → Type 0
-IsPlaced line (checked.Command command) = ⊤
-IsPlaced line checked.Skip = ⊤
 IsPlaced line (checked.Fault fault) = IsPlacedFault line fault
+IsPlaced line _ = ⊤
