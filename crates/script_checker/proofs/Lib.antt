@@ -1,4 +1,3 @@
-mod AsciiLemmas
 mod CountLemmas
 mod PlaceLemmas
 mod QueueLemmas
