@@ -40,10 +40,8 @@ counts_all (command ∷ commands) summary verb whole small =
     counts_all commands (noted summary command) verb (length-set before.counts _ _ ∙ same) step.0
     ∙ step.1 ∙ ap (λ lines. min (count_of summary verb + lines) (2 ^ 64 - 1)) (sym (sum_by-cons (λ x. cond (number_of (verb_in x) == number_of verb) 1 0) command commands))
 
-from_none : (x l most : ℕ) → x ≡ 0 → min (x + l) most ≡ min l most
-from_none x l most e = omega (arith, e)
-
 pub counts_of_all : LinesAreCounted
 counts_of_all queues commands verb =
     let none : count_of (empty queues) verb ≡ 0 = get_or-replicate VERBS (number_of verb) 0 0 (number_within verb) in
-    counts_all commands (empty queues) verb refl (omega (arith, none)) ∙ from_none (count_of (empty queues) verb) (lines_of_verb verb commands) (2 ^ 64 - 1) none
+    let all = counts_all commands (empty queues) verb refl (omega (arith, none)) in
+    omega (arith, none, all)

@@ -58,10 +58,6 @@ module _ (queues : ℕ) (mode : Mode) (all : List (List ℕ)) (last : ℕ) (line
     number = omega (arith, was.number);
     left = sym (drop-drop 1 last all) ∙ ap (drop 1) was.left;
     placed = subst (λ (f : List LineFault). All (IsPlacedIn all) f) (sym more) (All-append (IsPlacedIn all) found.faults.items (placed_in checked) was.placed (placed-here checked is placed));
-    faults =
-        ap (λ (f : List LineFault). told_of f ++ faults_after queues mode (last + 1) rest) more
-        ∙ ap (λ (f : List Fault). f ++ faults_after queues mode (last + 1) rest) (map-append (λ (f : LineFault). f.fault) found.faults.items (placed_in checked))
-        ∙ append_assoc (told_of found.faults.items) (told_of (placed_in checked)) (faults_after queues mode (last + 1) rest)
-        ∙ ap (λ (f : List Fault). told_of found.faults.items ++ (f ++ faults_after queues mode (last + 1) rest)) (told-placed checked ∙ ap fault_in is) ∙ was.faults;
+    faults = rw (more, map-append, append_assoc, told-placed checked, is) was.faults;
     summary = ap (λ (s : PlainSummary). noted_after queues mode (last + 1) s rest) (noted ∙ ap (noted_in found.summary) is) ∙ was.summary;
   }
