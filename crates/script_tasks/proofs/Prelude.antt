@@ -1,5 +1,5 @@
 -- The words of other crates that these proofs share, each with its home.
-pub use Rattle.std.proofs.Common.{Err, List, None, Ok, Option, Result, Some, [], add-one, ap, append_assoc, arith, get_or, if◌then◌else◌, inl, inr, length, map, refl, subst, suc, sym, take, ℕ, ◌++◌, ◌+◌, ◌<◌, ◌∙◌, ◌∷◌, ◌≡◌, ◌≤◌}
+pub use Rattle.std.proofs.Common.{List, None, Ok, Option, Result, Some, [], add-one, ap, append_assoc, arith, get_or, inl, inr, length, map, refl, subst, suc, sym, take, ℕ, ◌++◌, ◌+◌, ◌<◌, ◌∙◌, ◌∷◌, ◌≡◌, ◌≤◌}
 pub use Rattle.std.proofs.KnownBytes.{Appends-kept, Appends-nil, Appends-trans}
 pub use Rattle.std.proofs.lemmas.List.{append-nil, get_or-map, length-map}
 pub use Rattle.std.proofs.lemmas.Option.{IfSome_then}
