@@ -251,9 +251,9 @@ struct Options {
 /// The options of the words.
 fn options_of(given: &ArgMatches<'_>) -> Options {
     Options {
-        queues: number(given, "queues", 1),
-        blocks: number(given, "blocks", 4),
-        silos: number(given, "silos", 1),
+        queues: given.get_one::<u32>("queues").unwrap_or(1),
+        blocks: given.get_one::<u32>("blocks").unwrap_or(4),
+        silos: given.get_one::<u32>("silos").unwrap_or(1),
         summary: given.get_flag("summary"),
         busy: given.get_flag("busy"),
         queue: given.get_one::<u32>("queue"),
@@ -352,7 +352,11 @@ fn command<'a>(alloc: Global) -> Result<Command<'a>, AllocError> {
         .arg(silos(alloc))?
         .arg(queues(alloc))?
         .arg(blocks(alloc))?
-        .arg(summary_flag(alloc))?
+        .arg(flag(
+            alloc,
+            "summary",
+            "Prints how many events each subscription has handled, without the events",
+        ))?
         .after_help(RUN_EXAMPLE);
     let trace = Command::new(alloc, "trace")
         .about(
@@ -362,14 +366,22 @@ fn command<'a>(alloc: Global) -> Result<Command<'a>, AllocError> {
         .arg(silos(alloc))?
         .arg(queues(alloc))?
         .arg(blocks(alloc))?
-        .arg(busy_flag(alloc))?
+        .arg(flag(
+            alloc,
+            "busy",
+            "Leaves out the looks that found nothing to do",
+        ))?
         .arg(queue(alloc))?
         .after_help(TRACE_EXAMPLE);
     let check = Command::new(alloc, "check")
         .about("Tells all faults of a script, or what stands in one without a fault")
         .arg(file(alloc))?
         .arg(queues(alloc))?
-        .arg(run_flag(alloc))?
+        .arg(flag(
+            alloc,
+            "run",
+            "Checks the script as `streams run` reads it, and not as `streams sim` does",
+        ))?
         .after_help(CHECK_EXAMPLE);
     Command::new(alloc, "streams")
         .bin_name("streams")?
@@ -420,19 +432,11 @@ fn blocks<'a>(alloc: Global) -> Arg<'a> {
         .default_value("4")
 }
 
-/// Whether the events are left out of a report.
-fn summary_flag<'a>(alloc: Global) -> Arg<'a> {
-    Arg::new(alloc, "summary")
-        .long("summary")
-        .help("Prints how many events each subscription has handled, without the events")
-        .action(ArgAction::SetTrue)
-}
-
-/// Whether the calls that found nothing are left out of a trace.
-fn busy_flag<'a>(alloc: Global) -> Arg<'a> {
-    Arg::new(alloc, "busy")
-        .long("busy")
-        .help("Leaves out the looks that found nothing to do")
+/// A flag.
+fn flag<'a>(alloc: Global, name: &'a str, help: &'a str) -> Arg<'a> {
+    Arg::new(alloc, name)
+        .long(name)
+        .help(help)
         .action(ArgAction::SetTrue)
 }
 
@@ -443,19 +447,6 @@ fn queue<'a>(alloc: Global) -> Arg<'a> {
         .value_name("Q")
         .help("Prints the history of this queue alone, the first of which is 0")
         .value_parser(value_parser!(u32).range(0..MOST_QUEUES as i64))
-}
-
-/// Whether the script is one to run.
-fn run_flag<'a>(alloc: Global) -> Arg<'a> {
-    Arg::new(alloc, "run")
-        .long("run")
-        .help("Checks the script as `streams run` reads it, and not as `streams sim` does")
-        .action(ArgAction::SetTrue)
-}
-
-/// A number of the matches, which the parser has found to be in its range.
-fn number(matches: &ArgMatches<'_>, id: &str, usual: u32) -> u32 {
-    matches.get_one::<u32>(id).unwrap_or(usual)
 }
 
 /// The simulation with this many queues and blocks, each taken as 1 to 64.
