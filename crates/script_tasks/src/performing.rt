@@ -10,7 +10,7 @@ use crate::options::{Request, Task, parse_options, unread_words};
 use crate::silos::{run_on_silos, trace_on_silos};
 use crate::terminal::{Terminals, perform_on_terminal};
 use std::alloc::Global;
-use std::fs::{self, Files};
+use std::fs;
 use std::io::{self, Read, Write};
 use std::process::ExitCode;
 use std::rt::Runtime;
@@ -68,16 +68,11 @@ pub fn perform_words<
     let Request { file, task } = parse_options(alloc, words)?;
     match file {
         None => perform_task(rt, alloc, task, rt.reader(), sink),
-        Some(path) => perform_task(rt, alloc, task, open(rt, path)?, sink),
+        Some(path) => {
+            let script = fs::open(rt, path).map_err(|error| unread(&error))?;
+            perform_task(rt, alloc, task, script, sink)
+        }
     }
-}
-
-/// Opens the file of a script.
-///
-/// # Errors
-/// They are those of [`unread`].
-fn open<R: Files>(rt: &R, path: &str) -> Result<R::File, SimError> {
-    fs::open(rt, path).map_err(|error| unread(&error))
 }
 
 /// The fault of a script that isn't read: `Memory` where the call failed to allocate, and else `ReadFault`.
