@@ -1,5 +1,5 @@
 //! The text of a run, whole or without the lines of events.
-ghost use Rattle.std.specs.Prelude.{◌≡◌, ◌++◌, [], ◌∷◌, IfOk, OnOk};
+ghost use Rattle.std.specs.Prelude.{◌≡◌, ◌++◌, IfOk, OnOk};
 ghost use Rattle.script_tasks.specs.Printing.{is_event_line, kept_line, printed_text, without_events};
 
 use std::alloc::{AllocError, Global};
@@ -36,21 +36,13 @@ fn without_events(alloc: Global, text: &[u8]) -> Result<Vec<u8>, AllocError>
     Ok(kept)
 }
 
-/// Appends a line, where it isn't that of an event.
+/// Appends a line and its line feed, where it isn't that of an event.
 fn keep_line(line: &[u8], kept: &mut Vec<u8>) -> Result<(), AllocError>
     ensures { OnOk result (kept.new.items ≡ kept.old.items ++ kept_line line.now) }
 {
     if is_event_line(line) {
-        Ok(())
-    } else {
-        push_line(line, kept)
+        return Ok(());
     }
-}
-
-/// Appends a line, and its line feed.
-fn push_line(line: &[u8], kept: &mut Vec<u8>) -> Result<(), AllocError>
-    ensures { OnOk result (kept.new.items ≡ kept.old.items ++ line.now ++ 10 ∷ []) }
-{
     kept.extend_from_slice(line)?;
     kept.push(b'\n')?;
     Ok(())
