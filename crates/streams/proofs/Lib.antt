@@ -1,3 +1,2 @@
 mod Rounds
-mod Telling
 pub mod Prelude
