@@ -1,5 +1,5 @@
 -- Rounds that follow one another.
-use Rattle.streams.proofs.Prelude.{◌≡◌, ℕ, suc, ◌+◌, ◌-◌, ◌<◌, Result, Ok, Err, refl, subst, arith}
+use Rattle.streams.proofs.Prelude.{◌≡◌, ℕ, suc, ◌+◌, ◌-◌, ◌<◌, Result, Ok, refl, subst, arith}
 use Rattle.std.specs.declared.alloc.AllocError.{AllocError}
 use Rattle.silo_threads.specs.declared.ending.draining.Drained.{Drained}
 use Rattle.silo_threads.specs.declared.ending.draining.Drained.TheVariants as drained
@@ -14,7 +14,4 @@ one-more P rounds round within holds =
 -- a drain that settles
 pub quiet-ended : (end : Result Drained AllocError) (done : Unit) → Ok done ≡ read.settled end → end ≡ Ok drained.Quiet
 quiet-ended (Ok drained.Quiet) done is = refl
-quiet-ended (Ok drained.NotQuiet) done is = absurd (cc)
-quiet-ended (Ok drained.Ended) done is = absurd (cc)
-quiet-ended (Ok drained.Limit) done is = absurd (cc)
-quiet-ended (Err e) done is = absurd (cc)
+quiet-ended _ done is = absurd (cc)

@@ -61,10 +61,9 @@ start_for stream (from.Later token) = Some (start.At token)
 
 -- the start token, where it may not be above the one that the next batch gets
 abbrev pub checked_token : StartFrom → Option Token
-checked_token from.Latest = None
 checked_token (from.At first) = Some first.token
 checked_token (from.Token token) = Some token
-checked_token (from.Later token) = None
+checked_token _ = None
 
 -- What a call comes to by what its answer says. An answer that says nothing is that a limit of the queue was met: behind
 -- the call the queue was looked at, and its figures, of the partition that all calls leave which the pass has seen then,

@@ -32,7 +32,6 @@ use Rattle.silo_loops.specs.Silos.{SiloView}
 use Rattle.silo_threads.specs.Clusters.{AnswersDown, AnswersUp, ClusterView, HasFinished, IsNew}
 use Rattle.streams.specs.declared.answers.CallError.{CallError}
 use Rattle.streams.specs.declared.answers.CallError.TheVariants as call
-use Rattle.streams.specs.declared.answers.CloseError.{CloseError}
 use Rattle.streams.specs.declared.answers.CloseError.TheVariants as close
 use Rattle.streams.specs.declared.answers.Closed.{Closed}
 use Rattle.streams.specs.declared.answers.PublishError.{PublishError}
