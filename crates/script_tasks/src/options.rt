@@ -267,24 +267,18 @@ fn task_of(alloc: Global, name: &str, options: Options) -> Result<Task, clap::Er
     ensures exact { IfOk result (IsAsked name.now options) }
     ensures refused { OnErr result (IsQueueMissing name.now options) }
 {
-    let Options {
-        queues,
-        blocks,
-        silos,
-        ..
-    } = options;
     match name {
         "run" => Ok(Task::Run(
-            run_config(queues, blocks, silos),
+            run_config(options.queues, options.blocks, options.silos),
             detail_of(options.summary),
         )),
         "trace" => {
-            let config = trace_config(queues, blocks, silos);
+            let config = trace_config(options.queues, options.blocks, options.silos);
             let shown = shown_of(alloc, options, config.queues)?;
             Ok(Task::Trace(config, shown))
         }
-        "check" => Ok(Task::Check(check_config(queues, mode_of(options.run)))),
-        _ => Ok(Task::Simulate(sim_config(queues, blocks))),
+        "check" => Ok(Task::Check(check_config(options.queues, mode_of(options.run)))),
+        _ => Ok(Task::Simulate(sim_config(options.queues, options.blocks))),
     }
 }
 
