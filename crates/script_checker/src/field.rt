@@ -36,11 +36,6 @@ pub(crate) enum Field {
 }
 
 impl Field {
-    /// Whether a text stands there, and no word.
-    pub(crate) fn takes_text(self) -> bool {
-        matches!(self, Field::Text)
-    }
-
     /// Whether a piece is right there, given whether it is the last one of its line.
     pub(crate) fn fits(self, piece: &[u8], queues: usize, is_last: bool) -> bool {
         match self {

@@ -128,11 +128,12 @@ fn miscounted(bytes: &[u8]) -> Finding
 
 /// How a piece might be mended that can't stand in the place of this field, or nothing where it can.
 fn count_hint(field: Option<Field>, is_text: bool) -> Option<Option<&'static str>> {
-    match field {
-        None => Some(None),
-        Some(field) if field.takes_text() == is_text => None,
-        Some(_) if is_text => Some(Some("no quotes stand around a word")),
-        Some(_) => Some(Some(r#"a text stands between quotes, as "paid""#)),
+    match (field, is_text) {
+        (None, _) => Some(None),
+        (Some(Field::Text), true) => None,
+        (Some(Field::Text), false) => Some(Some(r#"a text stands between quotes, as "paid""#)),
+        (Some(_), true) => Some(Some("no quotes stand around a word")),
+        (Some(_), false) => None,
     }
 }
 
