@@ -1,5 +1,4 @@
-use Rattle.script_tasks.proofs.Prelude.{subst, sym, IfSome_then}
-use Rattle.script_tasks.specs.Printing.{PrintsTrace}
+use Rattle.script_tasks.proofs.Prelude.{IfSome_then}
 use Rattle.script_tasks.proofs.Running.{trace-printed}
 use Rattle.script_tasks.proofs.silos.trace_on_silos.Goals as goal
 
@@ -10,5 +9,5 @@ returns-clause-written g c =
     let old = g.W.Write.contents c.args.sink.now in
     let new = g.W.Write.contents c.write_left.new.sink in
     IfSome_then (g.R.Source.remaining c.args.source.now) c.in_ok-ran.ensures.source (λ input runs.
-    subst (PrintsTrace config c.args.shown input old new) (sym c.ended.ensures.exact)
+    rw c.ended.ensures.exact
     (trace-printed config input old new runs.0 ran.printed.items runs.1 c.args.shown ran.end runs.2 c.in_ok-ran.ensures.legal c.in_ok-write_left.ensures))
