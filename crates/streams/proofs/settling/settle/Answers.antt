@@ -1,7 +1,4 @@
-use Rattle.streams.proofs.Prelude.{◌≡◌, ◌≢◌, ◌∙◌, ◌+◌, ◌-◌, ℕ, suc, Result, Ok, Err, arith, inl, inr, refl, subst, sym, err_from_is_err_and}
-use Rattle.std.specs.declared.alloc.AllocError.{AllocError}
-use Rattle.silo_threads.specs.declared.ending.draining.Drained.{Drained}
-use Rattle.silo_threads.specs.Draining.{EndsLooking}
+use Rattle.streams.proofs.Prelude.{◌≡◌, ◌≢◌, ◌∙◌, ◌+◌, ◌-◌, suc, Ok, Err, arith, inl, inr, refl, sym, err_from_is_err_and}
 use Rattle.streams.specs.Settling.{Settles}
 use Rattle.streams.proofs.Rounds.{one-more, quiet-ended}
 use Rattle.streams.proofs.settling.settle.Goals as goal
@@ -30,7 +27,7 @@ returns-then-count_batches-before-clause-settles g c =
     let before = c.count_batches-before.new.caller in
     let new = c.count_batches.new.caller in
     let same : c.count_batches.result ≡ c.count_batches-before.result = omega (arith, c.if-count_batches-before.true) in
-    let quiet = subst (λ (end : Result Drained AllocError). EndsLooking looks before end c.drain.new.caller) (quiet-ended c.drain.result c.in_ok-settled.field-0 c.in_ok-settled.ensures) c.drain.ensures.ends in
+    let quiet = rw (quiet-ended c.drain.result c.in_ok-settled.field-0 c.in_ok-settled.ensures) at c.drain.ensures.ends in
     let last : Settles (suc (looks - (round + 1))) looks now (Ok tt) new = (
       c.count_batches-before.result,
       before,
@@ -46,7 +43,7 @@ loop-round-preserved g c =
     let now = c.loop-round.caller in
     let before = c.count_batches-before.new.caller in
     let others : c.count_batches.result ≢ c.count_batches-before.result = λ is. absurd (omega (arith, is, c.if-count_batches-before.false)) in
-    let quiet = subst (λ (end : Result Drained AllocError). EndsLooking looks before end c.drain.new.caller) (quiet-ended c.drain.result c.in_ok-settled.field-0 c.in_ok-settled.ensures) c.drain.ensures.ends in
+    let quiet = rw (quiet-ended c.drain.result c.in_ok-settled.field-0 c.in_ok-settled.ensures) at c.drain.ensures.ends in
     record {
       at = c.count_batches.ensures.turnstiles ∙ (c.drain.ensures.turnstiles ∙ (c.count_batches-before.ensures.turnstiles ∙ c.loop-round.invariant.at));
       rest = λ result new more.
