@@ -39,7 +39,10 @@ impl Field {
     /// Whether a piece is right there, given whether it is the last one of its line.
     pub(crate) fn fits(self, piece: &[u8], queues: usize, is_last: bool) -> bool {
         match self {
-            Field::Text => payload_len(piece) <= PAYLOAD_BYTES,
+            Field::Text => match piece {
+                [b'"', text @ .., b'"'] => unescaped_len(text) <= PAYLOAD_BYTES,
+                _ => true,
+            },
             _ => self.fits_word(piece, queues, is_last),
         }
     }
@@ -218,15 +221,7 @@ fn is_sub_name(name: &[u8]) -> bool
     }
 }
 
-/// How many bytes a text in quotes stands for.
-fn payload_len(piece: &[u8]) -> usize {
-    match piece {
-        [b'"', text @ .., b'"'] => unescaped_len(text),
-        _ => 0,
-    }
-}
-
-/// How many bytes are left where an escape is one.
+/// How many bytes of a text are left where an escape is one.
 fn unescaped_len(text: &[u8]) -> usize
     ensures { result ≤ length text.now }
 {
