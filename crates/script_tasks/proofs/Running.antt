@@ -23,7 +23,8 @@ whole-input (Some input) None script read end = absurd read
 whole-input (Some input) (Some rest) script read end = read ∙ ap (λ (bytes : List ℕ). script ++ bytes) end ∙ append-nil script
 
 pub each-legal : (config : Config) (histories : List (List (Entry Op Reply))) (partitions : List PlainPartition) → AllZip (IsLegalHistory config) histories partitions → AreLegalAt config histories
-each-legal config [] ps all = tt
+each-legal config [] [] all = tt
+each-legal config [] (p ∷ ps) all = absurd all
 each-legal config (h ∷ hs) [] all = absurd all
 each-legal config (h ∷ hs) (p ∷ ps) all = (all.0.legal, each-legal config hs ps all.1)
 

@@ -3,6 +3,7 @@ use Rattle.std.specs.Prelude.{◌≡◌, ◌⊎◌, ◌<◌, ℕ, List, [], ◌�
 use Rattle.std.specs.Io.KnownBytes.{Appends, Keeps}
 use Rattle.stream_script.specs.Lines.{lines_of}
 use Rattle.stream_script.specs.declared.parser.limits.TheConstants.{MOST_SCRIPT_BYTES}
+use Rattle.stream_script.specs.declared.parser.command.Fault.{Fault}
 use Rattle.script_checker.specs.declared.line.LineFault.{LineFault}
 use Rattle.script_checker.specs.declared.script.Findings.{Findings}
 use Rattle.script_checker.specs.Scripts.{HasFound, findings_text}
@@ -29,6 +30,8 @@ abbrev pub PrintsCheck : CheckConfig → List ℕ → Option (List ℕ) → Opti
 PrintsCheck config script old new (Ok done) = WritesCheck config script old new (Ok done)
 PrintsCheck config script old new (Err (fault.Script (error.ScriptFault found))) =
     ((found ≡ too_long) × (MOST_SCRIPT_BYTES < length script) × Keeps old new) ⊎ WritesCheck config script old new (Err (fault.Script (error.ScriptFault found)))
+PrintsCheck config script old new (Err (fault.Script error.ReadFault)) = Keeps old new
+PrintsCheck config script old new (Err (fault.Script error.Memory)) = Keeps old new
 PrintsCheck config script old new (Err (fault.Script error.WriteFault)) = ⊤
-PrintsCheck config script old new (Err (fault.Script _)) = Keeps old new
-PrintsCheck config script old new (Err _) = ⊥
+PrintsCheck config script old new (Err (fault.Unfinished why)) = ⊥
+PrintsCheck config script old new (Err (fault.CommandLine error)) = ⊥

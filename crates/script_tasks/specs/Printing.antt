@@ -98,8 +98,9 @@ PrintsRun config much script old new (Ok done) =
     × Appends old new (printed_text much (script_text config.queues missed config.silos lines))
 PrintsRun config much script old new (Err (fault.Script (error.ScriptFault found))) =
     (commands_of config.queues script ≡ Err found) × Keeps old new
+PrintsRun config much script old new (Err (fault.Script error.ReadFault)) = Keeps old new
+PrintsRun config much script old new (Err (fault.Script error.Memory)) = Keeps old new
 PrintsRun config much script old new (Err (fault.Script error.WriteFault)) = ⊤
-PrintsRun config much script old new (Err (fault.Script _)) = Keeps old new
 PrintsRun config much script old new (Err (fault.Unfinished why)) =
     (lines : List Line) × (commands_of config.queues script ≡ Ok lines) × (PrintsFront config much lines old new ⊎ PrintsSome much why old new)
 PrintsRun config much script old new (Err (fault.CommandLine error)) = ⊥
@@ -116,7 +117,8 @@ PrintsTrace config shown script old new (Ok done) =
 PrintsTrace config shown script old new (Err (fault.Script (error.ScriptFault found))) =
     (commands_of config.queues script ≡ Err found) × Keeps old new
 PrintsTrace config shown script old new (Err (fault.Script error.ReadFault)) = Keeps old new
-PrintsTrace config shown script old new (Err (fault.Script _)) = ⊤
+PrintsTrace config shown script old new (Err (fault.Script error.Memory)) = ⊤
+PrintsTrace config shown script old new (Err (fault.Script error.WriteFault)) = ⊤
 PrintsTrace config shown script old new (Err (fault.Unfinished why)) =
     (lines done left : List Line) × (missed : List ℕ) × (histories : List (List (Entry Op Reply))) × (commands_of config.queues script ≡ Ok lines)
     × (lines ≡ done ++ left) × ((length histories ≡ config.queues) ⊎ ((why ≡ unfinished.Limit) × (histories ≡ [])))

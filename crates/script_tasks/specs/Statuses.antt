@@ -13,7 +13,9 @@ use Rattle.stream_script.specs.declared.simulate.SimError.TheVariants as error
 abbrev pub status_of : ProgramFault → ℕ
 status_of (fault.Script (error.ScriptFault found)) = 1
 status_of (fault.CommandLine wrong) = 2
-status_of (fault.Script _) = 3
+status_of (fault.Script error.ReadFault) = 3
+status_of (fault.Script error.WriteFault) = 3
+status_of (fault.Script error.Memory) = 3
 status_of (fault.Unfinished why) = 4
 
 -- what a mistake in the words ends with, and a request for help or the version: that ends with 3 where it can't be printed
@@ -24,7 +26,8 @@ pub record EndsWords (wrong : Error) (status : ℕ) : Type 0 where
 -- what the program ends with that met a fault
 abbrev pub EndsWith : ProgramFault → ExitCode → Type 0
 EndsWith (fault.CommandLine wrong) code = EndsWords wrong (exit_status code)
-EndsWith other code = exit_status code ≡ status_of other
+EndsWith (fault.Script wrong) code = exit_status code ≡ status_of (fault.Script wrong)
+EndsWith (fault.Unfinished why) code = exit_status code ≡ status_of (fault.Unfinished why)
 
 -- what the program ends with, by how that ended which it was asked for
 abbrev pub Exits : Result Unit ProgramFault → ExitCode → Type 0
