@@ -1,7 +1,9 @@
 -- The silos that live, by a line of a script.
-use Rattle.script_runs.proofs.Prelude.{lives-at, not-fixed, op-refl, ClusterView, IsDown, IsUp, MayGo, OperatorGoesOn, ◌≡◌, ◌≢◌, ℕ, zero, suc, ◌<◌, true, false, ◌||◌, not, List, [], ◌∷◌, ◌++◌, length, Some, Contains, filter, remove, refl, sym, ap, subst, ◌∙◌, arith, ◌==◌, if◌then◌else◌, cond_both, eq-eqb, eqb-true, ne_eqb, or_parts, or_right, true≢false, slice_get_within, slice_get, Command}
+use Rattle.script_runs.proofs.Prelude.{lives-at, not-fixed, op-refl, ClusterView, IsDown, IsUp, MayGo, OperatorGoesOn, ◌≡◌, ◌≢◌, ℕ, zero, suc, ◌<◌, true, false, ◌||◌, not, List, [], ◌∷◌, ◌++◌, length, Some, Contains, filter, remove, refl, sym, ap, subst, ◌∙◌, arith, ◌==◌, if◌then◌else◌, cond_both, eq-eqb, eqb-true, ne_eqb, or_parts, or_right, slice_get_within, slice_get, Command}
+use Rattle.std.proofs.lemmas.Bool.{false_from_ne_true}
 use Rattle.std.proofs.lemmas.List.Folds.{list_any_at}
 use Rattle.std.proofs.lemmas.List.Quantifiers.{all_pairs_remove}
+use Rattle.std.proofs.lemmas.Map.Views.{Contains-from_any}
 use Rattle.queue_balancer.specs.Balance.{HasNoDoubles}
 use Rattle.queue_balancer.proofs.CountLemmas.{HasNoDoubles-rest}
 use Rattle.silo_threads.proofs.Spreading.{one-more}
@@ -14,35 +16,22 @@ use Rattle.script_runs.specs.Lines.{ChangesBy, PrintsChange, StaysOpen}
 -- ---- whether a silo is among those that live
 
 among-has : (silo : ℕ) (live : List ℕ) → is_among silo live ≡ true → Contains live silo
-among-has silo [] is = absurd (true≢false (sym is))
-among-has silo (x ∷ xs) is =
-    elim (x == silo) as (λ b. (x == silo) ≡ b → (b || is_among silo xs) ≡ true → Contains (x ∷ xs) silo) [
-      | true ↦ λ same _. (0, omega arith, eqb-true x silo same)
-      | false ↦ λ _ rest. let k = among-has silo xs rest in (suc k.0, omega (arith, k.1), k.2)
-    ] refl is
+among-has silo live is = Contains-from_any {K = ℕ} {eq = λ (one other : ℕ). other == one} (λ one other same. sym (eqb-true other one same)) silo live is
 
 has-among : (silo : ℕ) (live : List ℕ) → Contains live silo → is_among silo live ≡ true
 has-among silo live has = list_any_at (λ (other : ℕ). other == silo) live has.0 silo has.1 (eq-eqb _ silo has.2)
 
 not-among : (silo : ℕ) (live : List ℕ) → ¬ Contains live silo → is_among silo live ≡ false
-not-among silo live none =
-    elim (is_among silo live) as (λ b. is_among silo live ≡ b → b ≡ false) [
-      | true ↦ λ is. absurd (none (among-has silo live is))
-      | false ↦ λ _. refl
-    ] refl
+not-among silo live none = false_from_ne_true (is_among silo live) (λ is. none (among-has silo live is))
 
 -- ---- a silo that goes
 
-tail-none : (x silo : ℕ) (xs : List ℕ) → ¬ Contains (x ∷ xs) silo → ¬ Contains xs silo
-tail-none x silo xs none has = none (suc has.0, omega (arith, has.1), has.2)
-
-kept-all : (silo : ℕ) (xs : List ℕ) → ¬ Contains xs silo → filter (λ (other : ℕ). not (other == silo)) xs ≡ xs
+kept-all : (silo : ℕ) (xs : List ℕ) → is_among silo xs ≡ false → filter (λ (other : ℕ). not (other == silo)) xs ≡ xs
 kept-all silo [] none = refl
 kept-all silo (x ∷ xs) none =
-    let rest = kept-all silo xs (tail-none x silo xs none) in
-    let other : (x == silo) ≡ false = ne_eqb x silo (λ same. none (0, omega arith, same)) in
-    ap (λ b. if not b then x ∷ filter (λ (other : ℕ). not (other == silo)) xs else filter (λ (other : ℕ). not (other == silo)) xs) other
-    ∙ ap (λ ys. x ∷ ys) rest
+    let parts = or_parts (x == silo) (is_among silo xs) none in
+    ap (λ b. if not b then x ∷ filter (λ (other : ℕ). not (other == silo)) xs else filter (λ (other : ℕ). not (other == silo)) xs) parts.0
+    ∙ ap (λ ys. x ∷ ys) (kept-all silo xs parts.1)
 
 first-once : (x : ℕ) (xs : List ℕ) → HasNoDoubles (x ∷ xs) → ¬ Contains xs x
 first-once x xs once has = once 0 (suc has.0) x (omega arith) (omega (arith, has.1)) (sym has.2)
@@ -51,7 +40,7 @@ removed : (live : List ℕ) (place silo : ℕ) → HasNoDoubles live → slice_g
 removed [] place silo once at = absurd (cc)
 removed (x ∷ xs) zero silo once at =
     let same : x ≡ silo = cc in
-    sym (kept-all silo xs (subst (λ (y : ℕ). ¬ Contains xs y) same (first-once x xs once)))
+    sym (kept-all silo xs (not-among silo xs (subst (λ (y : ℕ). ¬ Contains xs y) same (first-once x xs once))))
     ∙ ap (λ b. if not b then x ∷ filter (λ (other : ℕ). not (other == silo)) xs else filter (λ (other : ℕ). not (other == silo)) xs) (sym (eq-eqb x silo same))
 removed (x ∷ xs) (suc place) silo once at =
     let other : (x == silo) ≡ false = ne_eqb x silo (λ same. first-once x xs once (subst (λ (y : ℕ). Contains xs y) (sym same) (lives-at xs place silo at))) in
@@ -125,7 +114,7 @@ went v w silo may goes =
 pub lacks : (v w : ClusterView) (silo : ℕ) → ¬ Contains v.operator.live silo → w ≡ v → ChangesBy v (command.Down silo) answer.Refused w
 lacks v w silo none same =
     let live = v.operator.live in
-    refused v w (command.Down silo) same (cond_both (length live == 1) live (filter (λ (other : ℕ). not (other == silo)) live) (λ (kept : List ℕ). live ≡ kept) (λ _. refl) (λ _. sym (kept-all silo live none)))
+    refused v w (command.Down silo) same (cond_both (length live == 1) live (filter (λ (other : ℕ). not (other == silo)) live) (λ (kept : List ℕ). live ≡ kept) (λ _. refl) (λ _. sym (kept-all silo live (not-among silo live none))))
     (λ missed silos lines number is.
     ap (λ (there : List ℕ). refused_where number (not (is_among silo there) || (length there == 1))) (sym is)
     ∙ ap (λ b. refused_where number (not b || (length live == 1))) (not-among silo live none))

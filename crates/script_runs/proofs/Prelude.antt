@@ -26,12 +26,12 @@ pub use Rattle.stream_ident.specs.Event.{batch_token, is_owed}
 pub use Rattle.stream_ident.specs.Name.{same_grain, same_name}
 pub use Rattle.stream_ident.specs.SubName.{same_sub, sub_lt}
 pub use Rattle.stream_ident.specs.Token.{IsToken, token_lt, token_text}
-pub use Rattle.stream_ident.specs.Words.{each_value, or_else, past, value_at, with_value}
+pub use Rattle.stream_ident.specs.Words.{or_else, value_at, with_value}
 pub use Rattle.stream_ident.specs.declared.event.Event.{Event}
 pub use Rattle.stream_ident.specs.declared.ident.GrainId.{GrainId}
 pub use Rattle.stream_ident.specs.declared.ident.StreamId.{StreamId}
 pub use Rattle.stream_ident.specs.declared.ident.SubName.{SubName}
-pub use Rattle.stream_ident.specs.declared.limits.TheConstants.{BATCH_EVENTS, BLOCK_EVENTS, MAILBOX_PLACES}
+pub use Rattle.stream_ident.specs.declared.limits.TheConstants.{BATCH_EVENTS, BLOCK_EVENTS}
 pub use Rattle.stream_ident.specs.declared.rule.Rule.{Rule}
 pub use Rattle.stream_ident.specs.declared.token.Token.{Token}
 pub use Rattle.stream_laws.proofs.Invariant.{Fits, RulesDiffer, bound_by_rules}
@@ -41,9 +41,9 @@ pub use Rattle.stream_laws.proofs.Legal.{fits-empty, fits-stands, fits-step, lea
 pub use Rattle.stream_laws.specs.Laws.{entries_of, gives, is_given}
 pub use Rattle.stream_model.specs.History.{Binding, binding_of, handled_events, is_closed, owed_events, published_events}
 pub use Rattle.stream_model.specs.NewestFirst.{batches_after, binding_after, closed_after, owed_of, published_after}
-pub use Rattle.stream_model.specs.Positions.{between, empty, grain_at, is_spent, low_token, lower_bound, new_subscription, next_position, sub_at}
+pub use Rattle.stream_model.specs.Positions.{between, empty, grain_at, is_spent, low_token, lower_bound, new_subscription, sub_at}
 pub use Rattle.stream_model.specs.Producers.{is_producer}
-pub use Rattle.stream_model.specs.Pulling.{acknowledged, all_implied, caught_up, drops, handled_at, implied, is_stale, rewound, rewound_where, room, subs_with}
+pub use Rattle.stream_model.specs.Pulling.{all_implied, drops, implied, is_stale, rewound, rewound_where, room, subs_with}
 pub use Rattle.stream_model.specs.Replies.{Reply}
 pub use Rattle.stream_model.specs.Step.{Leads, Stands, after_steps, replies_of}
 pub use Rattle.stream_model.specs.declared.limits.Limits.{Limits}
