@@ -73,15 +73,6 @@ explicit-none kind stream (name.Implicit own_kind own) kept = cc
 abbrev named_one : SubName → Option Subscription → List SubSummary
 named_one s found = option_to_list (option_map (λ (r : Subscription). summary_of (s, r)) found)
 
-none-named : (s : SubName) (entries : List (SubName × Subscription)) → value_at same_sub s entries ≡ None → filter (is_named s) (map summary_of entries) ≡ []
-none-named s [] none = refl
-none-named s (entry ∷ entries) none =
-    (elim (same_sub s entry.0) as (λ b. (if b then Some entry.1 else value_at same_sub s entries) ≡ None
-    → (if b then summary_of entry ∷ filter (is_named s) (map summary_of entries) else filter (is_named s) (map summary_of entries)) ≡ []) [
-      | true ↦ λ none. absurd (cc)
-      | false ↦ λ none. none-named s entries none
-    ]) none
-
 named-once : (s : SubName) (entries : List (SubName × Subscription)) → AreUnique same_sub entries → filter (is_named s) (map summary_of entries) ≡ named_one s (value_at same_sub s entries)
 named-once s [] unique = refl
 named-once s (entry ∷ entries) unique =
@@ -90,7 +81,7 @@ named-once s (entry ∷ entries) unique =
       | true ↦ λ here.
           let same : entry.0 ≡ s = sym (same_sub-equal s entry.0 here) in
           let no_other : value_at same_sub s entries ≡ None = subst (λ k. value_at same_sub k entries ≡ None) same unique.0 in
-          (λ i. summary_of (same i, entry.1) ∷ none-named s entries no_other i)
+          (λ i. summary_of (same i, entry.1) ∷ (named-once s entries unique.1 ∙ ap (named_one s) no_other) i)
       | false ↦ λ there. named-once s entries unique.1
     ]) refl
 
@@ -205,8 +196,8 @@ module _ (blocks : ℕ) (limits : Limits) (history : List Entry) (p : PlainParti
 
   explicit-named : (number : ℕ) → filter (is_named (name.Explicit number)) (implicit_subs history) ≡ []
   explicit-named number =
-      none-named (name.Explicit number) (subs_with rules 0 [] events)
-      (fold-added-at (name.Explicit number) [] made ∙ explicit-unmade number (value_at same_sub (name.Explicit number) made) refl)
+      named-once (name.Explicit number) (subs_with rules 0 [] events) (unique-fold [] made tt)
+      ∙ ap (named_one (name.Explicit number)) (fold-added-at (name.Explicit number) [] made ∙ explicit-unmade number (value_at same_sub (name.Explicit number) made) refl)
 
   -- a name is among them exactly where it is owed an event
   owed-some : (kind : List ℕ) (stream : StreamId) (o : Option Subscription) → value_at same_sub (name.Implicit kind stream) made ≡ o → is_some o ≡ is_owed_some history (name.Implicit kind stream)
