@@ -146,12 +146,6 @@ module _ (blocks : ℕ) (limits : Limits) (history : List Entry) (p : PlainParti
       let one = each-made (name.Implicit kind stream) r found in
       any-kept (λ event. is_owed one.stream (batch_token one.from) event) events one.owed (sym (ap (owed_of events) (bound-made kind stream r one)) ∙ none)
 
-  -- the rules make a name of what was published exactly where it has a record, and then the same summary
-  made-none : quiet p ≡ IsQuiet → (kind : List ℕ) (stream : StreamId) (o : Option Subscription) → sub_at p (name.Implicit kind stream) ≡ None → value_at same_sub (name.Implicit kind stream) made ≡ o → o ≡ None
-  made-none is_quiet kind stream None none found = refl
-  made-none is_quiet kind stream (Some r) none found =
-      absurd (made-owed kind stream r found (quiet_owes_no_other-from kept-step blocks limits history p stands is_quiet kind stream none))
-
   same-summary : (kind : List ℕ) (stream : StreamId) (r now : Subscription) → sub_at p (name.Implicit kind stream) ≡ Some r → value_at same_sub (name.Implicit kind stream) made ≡ Some now
       → summary_of (name.Implicit kind stream, now) ≡ summary_of (name.Implicit kind stream, r)
   same-summary kind stream r now found is =
@@ -167,26 +161,25 @@ module _ (blocks : ℕ) (limits : Limits) (history : List Entry) (p : PlainParti
       ap (λ (r : Subscription). summary_of (s, r)) one.value
       ∙ (λ i. record { name = s; stream = (binding i).stream; grain = grain i; start = (binding i).start; is_open = sym owed.is_open i })
 
-  made-some : (kind : List ℕ) (stream : StreamId) (r : Subscription) (o : Option Subscription) → sub_at p (name.Implicit kind stream) ≡ Some r → value_at same_sub (name.Implicit kind stream) made ≡ o
-      → named_one (name.Implicit kind stream) o ≡ named_one (name.Implicit kind stream) (Some r)
-  made-some kind stream r (Some now) found is = ap (λ sub. sub ∷ []) (same-summary kind stream r now found is)
-  made-some kind stream r None found is =
+  -- the rules make a name of what was published exactly where it has a record, and then the same summary
+  named-made : quiet p ≡ IsQuiet → (kind : List ℕ) (stream : StreamId) (o m : Option Subscription) → sub_at p (name.Implicit kind stream) ≡ o → value_at same_sub (name.Implicit kind stream) made ≡ m
+      → named_one (name.Implicit kind stream) m ≡ named_one (name.Implicit kind stream) o
+  named-made is_quiet kind stream None None none is = refl
+  named-made is_quiet kind stream None (Some now) none is =
+      absurd (made-owed kind stream now is (quiet_owes_no_other-from kept-step blocks limits history p stands is_quiet kind stream none))
+  named-made is_quiet kind stream (Some r) (Some now) found is = ap (λ sub. sub ∷ []) (same-summary kind stream r now found is)
+  named-made is_quiet kind stream (Some r) None found is =
       let s : SubName = name.Implicit kind stream in
       let bound = (records_agree-from kept-step blocks limits history p stands s r found).1 in
       let owed = (implied-record blocks limits history p stands s r found).1 in
       absurd (false≢true (ap is_some (sym is) ∙ made-where-owed s rules 0 (record { stream = r.stream; start = r.start }) events (sym (bound-at kind stream) ∙ bound) owed))
-
-  named-made : quiet p ≡ IsQuiet → (kind : List ℕ) (stream : StreamId) (o : Option Subscription) → sub_at p (name.Implicit kind stream) ≡ o
-      → named_one (name.Implicit kind stream) (value_at same_sub (name.Implicit kind stream) made) ≡ named_one (name.Implicit kind stream) o
-  named-made is_quiet kind stream None none = ap (named_one (name.Implicit kind stream)) (made-none is_quiet kind stream (value_at same_sub (name.Implicit kind stream) made) none refl)
-  named-made is_quiet kind stream (Some r) found = made-some kind stream r (value_at same_sub (name.Implicit kind stream) made) found refl
 
   implicit-named : quiet p ≡ IsQuiet → (kind : List ℕ) (stream : StreamId)
       → filter (is_named (name.Implicit kind stream)) (implicit_subs history) ≡ filter (is_named (name.Implicit kind stream)) (summaries_of p)
   implicit-named is_quiet kind stream =
       named-once (name.Implicit kind stream) (subs_with rules 0 [] events) (unique-fold [] made tt)
       ∙ (ap (named_one (name.Implicit kind stream)) (fold-added-at (name.Implicit kind stream) [] made)
-      ∙ (named-made is_quiet kind stream (sub_at p (name.Implicit kind stream)) refl
+      ∙ (named-made is_quiet kind stream (sub_at p (name.Implicit kind stream)) (value_at same_sub (name.Implicit kind stream) made) refl refl
       ∙ sym (named-once (name.Implicit kind stream) p.subs (steady-legal blocks limits history p stands).subs)))
 
   -- no explicit name is made
