@@ -1,5 +1,6 @@
 -- The report of a quiet partition is what its history tells.
 use Rattle.script_runs.proofs.Prelude.{◌≡◌, ◌≢◌, ◌∙◌, ap, sym, subst, refl, ℕ, suc, nat_lt, Bool, true, false, ◌&&◌, ◌||◌, not, length, arith, List, [], ◌∷◌, ◌++◌, map, filter, Option, Some, None, is_some, option_map, if◌then◌else◌, false≢true, lt-ltb, not-true, or_parts, append-nil, filter-append, filter_agree, same_Some, AllByRecursion, flat_map, list_any, handled_of, is_named_before, summaries_in_order, summaries_of, summary_of, SubSummary, same_sub-equal, sub_equality, batch_token, is_owed, same_sub, sub_lt, value_at, Event, StreamId, SubName, Rule, RulesDiffer, bound_by_rules, kept-step, records_are_open-from, fits-stands, Binding, binding_of, is_closed, owed_events, published_events, owed_of, sub_at, all_implied, subs_with, Stands, Limits, PlainPartition, Subscription, closed_text, open_text, queue_report, summary_text}
+use Rattle.std.proofs.lemmas.Bool.{false_from_ne_true}
 use Rattle.std.specs.List.Sorted.{ties}
 use Rattle.std.specs.Option.{option_to_list}
 use Rattle.stream_ident.specs.declared.ident.SubName.TheVariants as name
@@ -198,14 +199,11 @@ module _ (blocks : ℕ) (limits : Limits) (history : List Entry) (p : PlainParti
       sym (some-long (owed_events history (name.Implicit kind stream)) (made-owed kind stream r found))
   owed-some kind stream None found = by (binding_of history (name.Implicit kind stream)) refl
     where
-      none-owed : (b : Binding) → binding_of history (name.Implicit kind stream) ≡ Some b → (owed : Bool) → list_any (λ event. is_owed b.stream b.start event) events ≡ owed → filter (λ event. is_owed b.stream b.start event) events ≡ []
-      none-owed b bound true owed = absurd (false≢true (ap is_some (sym found) ∙ made-where-owed (name.Implicit kind stream) rules 0 b events (sym (bound-at kind stream) ∙ bound) owed))
-      none-owed b bound false owed = none-kept (λ event. is_owed b.stream b.start event) events owed
-
       by : (o : Option Binding) → binding_of history (name.Implicit kind stream) ≡ o → false ≡ is_owed_some history (name.Implicit kind stream)
       by None unbound = sym (ap (λ o. nat_lt 0 (length (owed_of events o))) unbound)
       by (Some b) bound =
-          sym (ap (λ o. nat_lt 0 (length (owed_of events o))) bound ∙ ap (λ (owed : List Event). nat_lt 0 (length owed)) (none-owed b bound (list_any (λ event. is_owed b.stream b.start event) events) refl))
+          let none = none-kept (λ event. is_owed b.stream b.start event) events (false_from_ne_true _ (λ owed. false≢true (ap is_some (sym found) ∙ made-where-owed (name.Implicit kind stream) rules 0 b events (sym (bound-at kind stream) ∙ bound) owed))) in
+          sym (ap (λ o. nat_lt 0 (length (owed_of events o))) bound ∙ ap (λ (owed : List Event). nat_lt 0 (length owed)) none)
 
   pub told-where-owed : (s : SubName) → list_any (is_named s) (implicit_subs history) ≡ is_owed_some history s
   told-where-owed s =
