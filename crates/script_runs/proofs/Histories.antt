@@ -1,17 +1,16 @@
 -- The histories of a run are legal, from the empty partition of its configuration.
-use Rattle.script_runs.proofs.Prelude.{after, replied, LineView, QueuePass, places, line-turnstiles, QueueCalls, joined_passes, turnstiles, AreAtQueues, ClusterView, HasFinished, IsAtQueue, IsNew, ◌≡◌, ℕ, zero, suc, List, [], ◌∷◌, length, map, Option, Some, None, Result, Ok, Err, refl, sym, ap, subst, ◌∙◌, length-map, AllByRecursion, AllZip, empty, Reply, Op, PlainPartition, IsLegal, replay, Entry, Refusal, HistoryFull}
+use Rattle.script_runs.proofs.Prelude.{after, replied, LineView, QueuePass, places, line-turnstiles, QueueCalls, joined_passes, turnstiles, AreAtQueues, ClusterView, HasFinished, IsAtQueue, IsNew, ◌≡◌, suc, List, [], ◌∷◌, length, map, Option, Some, None, Result, Ok, Err, refl, sym, ap, subst, ◌∙◌, length-map, AllByRecursion, AllZip, empty, Reply, Op, PlainPartition, IsLegal, replay, Entry, Refusal, HistoryFull}
 use Rattle.stream_model.specs.declared.op.Op.TheVariants as op
-use Rattle.stream_model.specs.declared.reply.Reply.TheVariants as reply
 use Rattle.turnstile.specs.Passes.{Origin}
 use Rattle.silo_loops.specs.Silos.{GoOn, SiloView}
 use Rattle.silo_loops.proofs.Going.{goes-places}
 use Rattle.silo_threads.specs.declared.ending.asking.Quiet.{Quiet}
-use Rattle.silo_threads.specs.declared.ending.asking.Quiet.TheVariants.{All, NotQuiet}
 use Rattle.silo_threads.specs.declared.ending.closing.Traces.{Traces}
 use Rattle.silo_threads.specs.declared.ending.finishing.Finished.{Finished}
 use Rattle.silo_threads.specs.declared.ending.finishing.Finished.TheVariants as finished
+use Rattle.silo_threads.proofs.Looking.{look-each}
 use Rattle.silo_threads.proofs.Splitting.{turnstiles-joined}
-use Rattle.silo_threads.specs.Asking.{AsksUpTo, IsQuiet}
+use Rattle.silo_threads.specs.Calls.{AreAlike}
 use Rattle.silo_threads.specs.Closing.{AreTraces, IsTraceOf}
 use Rattle.silo_threads.specs.Finishing.{CameTo}
 use Rattle.silo_threads.specs.Gathering.{gathered, passes_of}
@@ -25,21 +24,14 @@ use Rattle.script_runs.specs.Runs.{AreLegal, IsLegalHistory, LeavesLegalTraces, 
 asked-at : (result : Result Reply Refusal) (p q : QueuePass) → QueueCalls p op.Quiet result q → q.turnstile ≡ p.turnstile
 asked-at result p q calls = ap (λ (x : QueuePass). x.turnstile) calls.calls.only
 
-quiet-at : (old new : List QueuePass) → AllZip IsQuiet old new → turnstiles new ≡ turnstiles old
-quiet-at [] [] all = refl
-quiet-at (p ∷ ps) (q ∷ qs) all = λ i. asked-at (Ok reply.IsQuiet) p q all.0 i ∷ quiet-at ps qs all.1 i
-quiet-at _ _ all = absurd all
-
-up-to-at : (queue : ℕ) (result : Result Reply Refusal) (old new : List QueuePass) → AsksUpTo queue result old new → turnstiles new ≡ turnstiles old
-up-to-at queue result [] new asks = absurd asks
-up-to-at queue result (p ∷ ps) [] asks = absurd asks
-up-to-at zero result (p ∷ ps) (q ∷ qs) asks = λ i. asked-at result p q asks.0 i ∷ turnstiles (asks.1 i)
-up-to-at (suc queue) result (p ∷ ps) (q ∷ qs) asks = λ i. asked-at (Ok reply.IsQuiet) p q asks.0 i ∷ up-to-at queue result ps qs asks.1 i
+all-alike : (old new : List QueuePass) → AllZip AreAlike old new → turnstiles new ≡ turnstiles old
+all-alike [] [] all = refl
+all-alike (p ∷ ps) (q ∷ qs) all = λ i. all.0 i ∷ all-alike ps qs all.1 i
+all-alike _ _ all = absurd all
 
 came-at : (asked : Option Quiet) (old new : List QueuePass) → CameTo asked old new → turnstiles new ≡ turnstiles old
-came-at (Some All) old new came = quiet-at old new came
-came-at (Some (NotQuiet queue why)) old new came = up-to-at queue (Ok (reply.NotQuiet why)) old new came
-came-at None old new came = up-to-at came.0 (Err HistoryFull) old new came.1
+came-at (Some quiet) old new came = all-alike old new (look-each AreAlike (λ p. refl) asked-at old (Ok quiet) new came)
+came-at None old new came = all-alike old new (look-each AreAlike (λ p. refl) asked-at old (Err HistoryFull) new came)
 
 gathered-at : (ps : List QueuePass) (callers : List (List QueuePass)) → turnstiles (gathered ps callers) ≡ turnstiles ps
 gathered-at ps [] = refl
