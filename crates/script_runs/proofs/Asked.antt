@@ -1,5 +1,5 @@
 -- A line that asks at one queue or at each.
-use Rattle.script_runs.proofs.Prelude.{IsErrAnd, QueuePass, called-on, gone-refl, all-at, zip-at, zip-refl, CallerCalls, QueueCalls, HasGoneOn, ◌≡◌, ◌≢◌, ◌⊎◌, ℕ, zero, suc, ◌+◌, ◌<◌, ◌≤◌, inl, inr, true, if◌then◌else◌, List, [], ◌∷◌, ◌++◌, length, Some, None, Result, Ok, Err, IfOk, refl, sym, ap, subst, ◌∙◌, add-one, arith, eq-eqb, AllByRecursion, AllZip, slice_get, slice_set, AllocError, is_producer, Reply, Op, op_of, EachOp, Refusal, HistoryFull, Memory}
+use Rattle.script_runs.proofs.Prelude.{IsErrAnd, QueuePass, called-on, gone-refl, gone-trans, all-at, zip-at, zip-refl, zip-trans, CallerCalls, QueueCalls, HasGoneOn, ◌≡◌, ◌≢◌, ◌⊎◌, ℕ, zero, suc, ◌+◌, ◌<◌, ◌≤◌, inl, inr, true, if◌then◌else◌, List, [], ◌∷◌, ◌++◌, length, Some, None, Result, Ok, Err, IfOk, refl, sym, ap, subst, ◌∙◌, add-one, arith, eq-eqb, AllByRecursion, AllZip, slice_get, slice_set, AllocError, is_producer, Reply, Op, op_of, EachOp, Refusal, HistoryFull, Memory}
 use Rattle.std.proofs.lemmas.Bool.Decides.{eqb_tells}
 use Rattle.stream_script.specs.declared.parser.command.Command.TheVariants as command
 use Rattle.stream_script.specs.declared.parser.command.EachOp.TheVariants as each
@@ -103,7 +103,7 @@ module _ (op : Op) where
       ]
   before-at (suc n) _ _ k q front at = absurd front
 
-  before-on : is_producer op ≡ true → (n : ℕ) (old now : List QueuePass) → AreAskedBefore n op old now → AllZip HasGoneOn old now
+  pub before-on : is_producer op ≡ true → (n : ℕ) (old now : List QueuePass) → AreAskedBefore n op old now → AllZip HasGoneOn old now
   before-on produces zero old now same = subst (λ (es : List QueuePass). AllZip HasGoneOn old es) (sym same) (zip-refl HasGoneOn gone-refl old)
   before-on produces (suc n) (p ∷ old) (q ∷ now) front = (called-on p q op (Ok front.0.reply) (inl produces) front.0.calls, before-on produces n old now front.1)
   before-on produces (suc n) _ _ front = absurd front
@@ -138,10 +138,14 @@ IsFirstAnswer first op [] now = ⊥
 IsFirstAnswer first op (p ∷ old) [] = ⊥
 IsFirstAnswer first op (p ∷ old) (q ∷ now) = (asked : IsAsked op p q) × (first ≡ answer_of asked.reply)
 
--- so far each queue before this one was asked, and the first one answered so
+-- so far each queue before this one was asked, and the first one, where it is among them, answered so
 pub record AsksSoFar (first : Answer) (op : Op) (queue : ℕ) (old now : List QueuePass) : Type 0 where
   pub asked : AreAskedBefore queue op old now
-  pub first_is : IsFirstAnswer first op old now
+  pub first_is : 1 ≤ queue → IsFirstAnswer first op old now
+
+-- what the first queue answered, once this queue has answered so
+abbrev pub IsFirstAfter : ℕ → Answer → Answer → Answer → Type 0
+IsFirstAfter queue first a after = ((queue ≡ 0) × (after ≡ a)) ⊎ ((1 ≤ queue) × (after ≡ first))
 
 first-made : (first : Answer) (op : Op) (old : List QueuePass) (p q : QueuePass) → slice_get old 0 ≡ Some p → (asked : IsAsked op p q) → first ≡ answer_of asked.reply → IsFirstAnswer first op old (slice_set old 0 q)
 first-made first op [] p q had asked is = absurd (cc)
@@ -149,34 +153,37 @@ first-made first op (z ∷ old) p q had asked is =
     let same : p ≡ z = cc in
     subst (λ (e : QueuePass). (one : IsAsked op e q) × (first ≡ answer_of one.reply)) same (asked, is)
 
-first-kept : (first : Answer) (op : Op) (queue : ℕ) (old now : List QueuePass) (q : QueuePass) → 1 ≤ queue → IsFirstAnswer first op old now → IsFirstAnswer first op old (slice_set now queue q)
-first-kept first op zero old now q some is = absurd (omega (arith, some))
-first-kept first op (suc n) (p ∷ old) (r ∷ now) q some is = is
-first-kept first op (suc n) _ _ q some is = absurd is
+first-after : (first a after : Answer) (op : Op) (queue : ℕ) (old now : List QueuePass) (p q : QueuePass) → AreAskedBefore queue op old now → slice_get now queue ≡ Some p → (asked : IsAsked op p q) → a ≡ answer_of asked.reply
+    → (1 ≤ queue → IsFirstAnswer first op old now) → IsFirstAfter queue first a after → IsFirstAnswer after op old (slice_set now queue q)
+first-after first a after op zero old now p q same had asked answers was (inl here) =
+    subst (λ (es : List QueuePass). IsFirstAnswer after op old (slice_set es 0 q)) (sym same)
+    (first-made after op old p q (ap (λ (es : List QueuePass). slice_get es 0) (sym same) ∙ had) asked (here.1 ∙ answers))
+first-after first a after op zero old now p q same had asked answers was (inr kept) = absurd (omega (arith, kept.0))
+first-after first a after op (suc n) old now p q front had asked answers was (inl here) = absurd (omega (arith, here.0))
+first-after first a after op (suc n) (z ∷ old) (w ∷ now) p q front had asked answers was (inr kept) =
+    subst (λ (e : Answer). IsFirstAnswer e op (z ∷ old) (w ∷ slice_set now n q)) (sym kept.1) (was kept.0)
+first-after first a after op (suc n) _ _ p q front had asked answers was (inr kept) = absurd front
 
-pub each-first : (first : Answer) (asked op : Op) (old new : List QueuePass) → op ≡ asked → AsksOnce old 0 op (Ok first) new → first ≢ answer.Limit → AsksSoFar first asked 1 old new
-each-first first asked op old new is once free =
-    let replies = once-replied old 0 asked first new (subst (λ (o : Op). AsksOnce old 0 o (Ok first) new) is once) free in
-    let calls = replies.1 in
-    let one = asked-one asked first 0 old new free replies in
-    record {
-      asked = before-next asked 0 old old new calls.was calls.is refl calls.had calls.whole one;
-      first_is = subst (λ (es : List QueuePass). IsFirstAnswer first asked old es) (sym calls.whole) (first-made first asked old calls.was calls.is calls.had one replies.2);
-    }
+-- and that is no limit
+first-free : (first : Answer) (op : Op) (old now : List QueuePass) → IsFirstAnswer first op old now → first ≢ answer.Limit
+first-free first op (p ∷ old) (q ∷ now) is limit = is.0.free (sym is.1 ∙ limit)
+first-free first op _ _ is limit = absurd is
 
-pub each-next : (first a : Answer) (asked op : Op) (queue : ℕ) (old now new : List QueuePass) → op ≡ asked → AsksSoFar first asked queue old now → AsksOnce now queue op (Ok a) new → a ≢ answer.Limit → 1 ≤ queue
-    → AsksSoFar first asked (queue + 1) old new
-each-next first a asked op queue old now new is far once free some =
+pub each-next : (first a after : Answer) (asked op : Op) (queue : ℕ) (old now new : List QueuePass) → op ≡ asked → AsksSoFar first asked queue old now → AsksOnce now queue op (Ok a) new → a ≢ answer.Limit → IsFirstAfter queue first a after
+    → AsksSoFar after asked (queue + 1) old new
+each-next first a after asked op queue old now new is far once free keeps =
     let replies = once-replied now queue asked a new (subst (λ (o : Op). AsksOnce now queue o (Ok a) new) is once) free in
     let calls = replies.1 in
+    let one = asked-one asked a queue now new free replies in
     record {
-      asked = before-next asked queue old now new calls.was calls.is far.asked calls.had calls.whole (asked-one asked a queue now new free replies);
-      first_is = subst (λ (es : List QueuePass). IsFirstAnswer first asked old es) (sym calls.whole) (first-kept first asked queue old now calls.is some far.first_is);
+      asked = before-next asked queue old now new calls.was calls.is far.asked calls.had calls.whole one;
+      first_is = λ _. subst (λ (es : List QueuePass). IsFirstAnswer after asked old es) (sym calls.whole) (first-after first a after asked queue old now calls.was calls.is far.asked calls.had one replies.2 far.first_is keeps);
     }
 
--- one of these calls
-pub each-on : (asked op : Op) (queue : ℕ) (result : Result Answer AllocError) (old new : List QueuePass) → op ≡ asked → is_producer asked ≡ true → AsksOnce old queue op result new → AllZip HasGoneOn old new
-each-on asked op queue result old new is produces once = once-on old queue op result new (ap (λ o. is_producer o) is ∙ produces) once
+-- the calls so far, and one more
+pub each-on : (asked op : Op) (queue : ℕ) (result : Result Answer AllocError) (old now new : List QueuePass) → op ≡ asked → is_producer asked ≡ true → AreAskedBefore queue asked old now → AsksOnce now queue op result new → AllZip HasGoneOn old new
+each-on asked op queue result old now new is produces front once =
+    zip-trans HasGoneOn HasGoneOn HasGoneOn gone-trans old now new (before-on asked produces queue old now front) (once-on now queue op result new (ap (λ o. is_producer o) is ∙ produces) once)
 
 -- a rule is told without a look at the lines whose start token was refused
 each-alike : (asked : EachOp) (a b : Answer) (number : ℕ) (missed : List ℕ) → is_producer (op_of asked) ≡ true → IsToldAlike a b number missed (op_of asked)
@@ -202,9 +209,9 @@ once-ends op (Ok a) old new produces once = tt
 once-ends op (Err e) old new produces once = upto-last op (Err e) old new produces once
 
 -- calls that have met no limit
-pub once-free : (first : Answer) (op : Op) (queue : ℕ) (old new : List QueuePass) → length old ≤ queue → first ≢ answer.Limit → AreAskedBefore queue op old new → AsksEachOnce old op (Ok first) new
-once-free answer.Limit op queue old new long free front = absurd (free refl)
-once-free first op queue old new long free front = asked-all op queue old new long front
+pub once-free : (first : Answer) (op : Op) (queue : ℕ) (old new : List QueuePass) → 1 ≤ queue → length old ≤ queue → AsksSoFar first op queue old new → AsksEachOnce old op (Ok first) new
+once-free answer.Limit op queue old new some long far = absurd (first-free answer.Limit op old new (far.first_is some) refl)
+once-free first op queue old new some long far = asked-all op queue old new long far.asked
 
 -- what the line prints is what the first queue says
 first-printed : (first : Answer) (op : Op) (old new : List QueuePass) (number : ℕ) (missed : List ℕ) (lines : List Line) → is_producer op ≡ true → IsFirstAnswer first op old new → AllByRecursion BeginsEmpty old → AloneProduces new
@@ -215,9 +222,9 @@ first-printed first op (p ∷ old) (q ∷ new) number missed lines produces is b
     (line-printed p q op one.reply number missed 0 lines begins.0 alone.0 produces one.free fresh one.calls (has 0 p refl))
 first-printed first op _ _ number missed lines produces is begins alone fresh has = absurd is
 
-pub each-tells : (first : Answer) (asked : EachOp) (queues : ℕ) (old new : List QueuePass) → length old ≤ queues → is_producer (op_of asked) ≡ true → AsksSoFar first (op_of asked) queues old new
+pub each-tells : (first : Answer) (asked : EachOp) (queues : ℕ) (old new : List QueuePass) → 1 ≤ queues → length old ≤ queues → is_producer (op_of asked) ≡ true → AsksSoFar first (op_of asked) queues old new
     → Tells old (command.Each asked) first new
-each-tells first asked queues old new long produces far =
+each-tells first asked queues old new some long produces far =
     let op = op_of asked in
     let all = asked-all op queues old new long far.asked in
     record {
@@ -227,5 +234,5 @@ each-tells first asked queues old new long produces far =
           let one = beside.2 in
           line-told p q op one.reply first number missed queue lines (command.Each asked) (all-at BeginsEmpty old queue p begins beside.1) (all-at ProducesAlone new queue q alone at) produces one.free fresh
           (ap (λ b. if b then Some op else None) produces) (each-alike asked (answer_of one.reply) first number missed produces) one.calls (has queue p beside.1);
-      printed = λ begins alone missed lines number fresh has silos. first-printed first op old new number missed lines produces far.first_is begins alone fresh has;
+      printed = λ begins alone missed lines number fresh has silos. first-printed first op old new number missed lines produces (far.first_is some) begins alone fresh has;
     }

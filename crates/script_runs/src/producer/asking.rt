@@ -58,13 +58,14 @@ pub fn ask_each<G: Gate, H: QueueHistory, R: Wait>(
     ensures on { AllZip HasGoneOn caller.old caller.new }
     ensures turnstiles { turnstiles caller.new ≡ turnstiles caller.old }
 {
-    let first = ask_once(rt, alloc, caller, 0, each.op())?;
-    if first == Answer::Limit {
-        return Ok(Answer::Limit);
-    }
-    for queue in 1..caller.queues() {
-        if ask_once(rt, alloc, caller, queue, each.op())? == Answer::Limit {
+    let mut first = Answer::Taken;
+    for queue in 0..caller.queues() {
+        let answer = ask_once(rt, alloc, caller, queue, each.op())?;
+        if answer == Answer::Limit {
             return Ok(Answer::Limit);
+        }
+        if queue == 0 {
+            first = answer;
         }
     }
     Ok(first)
