@@ -1,5 +1,5 @@
 -- What was told of a script up to the line that was stopped.
-use Rattle.script_runs.proofs.Prelude.{owns-foreign, QueuePass, asks-foreign, all-at, zip-at, QueueCalls, ClusterView, ProducesNone, ◌≡◌, ◌⊎◌, inl, inr, if◌then◌else◌, ℕ, ◌<◌, true, arith, length, List, [], ◌∷◌, ◌++◌, Option, Some, None, Result, Ok, Err, refl, sym, ap, subst, ◌∙◌, append-nil, slice_get_within, AllZip, slice_get, AllocError, is_producer, Reply, Op, op_of, Command, EachOp, numbers_of, Entry, Refusal}
+use Rattle.script_runs.proofs.Prelude.{owns-foreign, QueuePass, asks-foreign, all-at, zip-at, QueueCalls, ClusterView, ProducesNone, ◌≡◌, ◌⊎◌, inl, inr, if◌then◌else◌, ℕ, ◌<◌, ◌≤◌, true, arith, length, List, [], ◌∷◌, ◌++◌, Option, Some, None, Result, Ok, Err, refl, sym, ap, subst, ◌∙◌, append-nil, slice_get_within, AllZip, slice_get, AllocError, is_producer, Reply, Op, op_of, Command, EachOp, numbers_of, Entry, Refusal}
 use Rattle.stream_model.specs.History as told
 use Rattle.stream_script.specs.declared.parser.command.Command.TheVariants as command
 use Rattle.script_runs.specs.declared.reader.line.Line.{Line}
@@ -21,13 +21,9 @@ pub none-part : (at : ℕ) (asked : Command) (queue : ℕ) → (queue < at → s
 none-part at asked queue none =
     record { before = λ less. subst (λ (o : Option Op). IsToldOnce o []) (sym (none less)) refl; here = λ same. inl refl; behind = λ past. refl }
 
--- all was
-whole-part : (at : ℕ) (asked : Command) (queue : ℕ) (rest : List told.Entry) → queue < at → IsToldOnce (script.op_at queue asked) rest → IsToldInPart at asked queue rest
-whole-part at asked queue rest less once = record { before = λ _. once; here = λ same. inr once; behind = λ past. absurd (omega (arith, less, past)) }
-
--- the line was stopped there
-stopped-part : (at : ℕ) (asked : Command) (queue : ℕ) (rest : List told.Entry) → queue ≡ at → ((rest ≡ []) ⊎ IsToldOnce (script.op_at queue asked) rest) → IsToldInPart at asked queue rest
-stopped-part at asked queue rest same most = record { before = λ less. absurd (omega (arith, less, same)); here = λ _. most; behind = λ past. absurd (omega (arith, past, same)) }
+-- all was, up to where the line has come
+whole-part : (at : ℕ) (asked : Command) (queue : ℕ) (rest : List told.Entry) → queue ≤ at → IsToldOnce (script.op_at queue asked) rest → IsToldInPart at asked queue rest
+whole-part at asked queue rest within once = record { before = λ _. once; here = λ same. inr once; behind = λ past. absurd (omega (arith, within, past)) }
 
 -- ---- a line that asks at one queue
 
@@ -44,17 +40,22 @@ refused-none p q op refusal calls =
 abbrev ToldPart : ℕ → Command → ℕ → List told.Entry → QueuePass → Type 0
 ToldPart at said queue before q = (rest : List told.Entry) × (told_at q ≡ before ++ rest) × IsToldInPart at said queue rest
 
--- at the queue of the last call
-call-part : (p q : QueuePass) (op : Op) (outcome : Result Reply Refusal) (said : Command) (at queue : ℕ) (before : List told.Entry) → queue ≡ at → script.op_at queue said ≡ Some op → is_producer op ≡ true → ProducesAlone q
-    → QueueCalls p op outcome q → told_at p ≡ before → ToldPart at said queue before q
-call-part p q op (Ok r) said at queue before here asks produces alone calls so_far =
+-- at a queue that has answered
+reply-part : (p q : QueuePass) (op : Op) (r : Reply) (said : Command) (at queue : ℕ) (before : List told.Entry) → queue ≤ at → script.op_at queue said ≡ Some op → is_producer op ≡ true → ProducesAlone q
+    → QueueCalls p op (Ok r) q → told_at p ≡ before → ToldPart at said queue before q
+reply-part p q op r said at queue before within asks produces alone calls so_far =
     let last : List told.Entry = record { op = op; reply = script.told_of r } ∷ [] in (
       last,
       (called-told p q op r produces calls alone).1 ∙ ap (λ (es : List told.Entry). es ++ last) so_far,
-      stopped-part at said queue last here (inr (subst (λ (o : Option Op). IsToldOnce o last) (sym asks) (script.told_of r, refl))),
+      whole-part at said queue last within (subst (λ (o : Option Op). IsToldOnce o last) (sym asks) (script.told_of r, refl)),
     )
+
+-- at the queue of the last call
+call-part : (p q : QueuePass) (op : Op) (outcome : Result Reply Refusal) (said : Command) (at queue : ℕ) (before : List told.Entry) → queue ≡ at → script.op_at queue said ≡ Some op → is_producer op ≡ true → ProducesAlone q
+    → QueueCalls p op outcome q → told_at p ≡ before → ToldPart at said queue before q
+call-part p q op (Ok r) said at queue before here asks produces alone calls so_far = reply-part p q op r said at queue before (omega (arith, here)) asks produces alone calls so_far
 call-part p q op (Err refusal) said at queue before here asks produces alone calls so_far =
-    ([], none-told p q (refused-none p q op refusal calls) alone ∙ so_far ∙ sym (append-nil before), stopped-part at said queue [] here (inl refl))
+    ([], none-told p q (refused-none p q op refusal calls) alone ∙ so_far ∙ sym (append-nil before), none-part at said queue (λ less. absurd (omega (arith, less, here))))
 
 pub step-part : (old new : List QueuePass) (queue : ℕ) (op : Op) (result : Result Answer AllocError) → is_producer op ≡ true → AsksOnce old queue op result new → TellsInPart old (command.Step queue op) new
 step-part old new queue op result produces once begins alone missed lines number fresh has = (
@@ -78,23 +79,12 @@ step-part old new queue op result produces once begins alone missed lines number
 op-each : (each : EachOp) (queue : ℕ) → is_producer (op_of each) ≡ true → script.op_at queue (command.Each each) ≡ Some (op_of each)
 op-each each queue produces = ap (λ b. if b then Some (op_of each) else None) produces
 
--- at a queue that was asked before the line was stopped
-asked-part : (p q : QueuePass) (each : EachOp) (last : ℕ) (queue : ℕ) (before : List told.Entry) → queue < last → is_producer (op_of each) ≡ true → ProducesAlone q → IsAsked (op_of each) p q → told_at p ≡ before
-    → ToldPart last (command.Each each) queue before q
-asked-part p q each last queue before less produces alone asked so_far =
-    let op = op_of each in
-    let rest : List told.Entry = record { op = op; reply = script.told_of asked.reply } ∷ [] in (
-      rest,
-      (called-told p q op asked.reply produces asked.calls alone).1 ∙ ap (λ (es : List told.Entry). es ++ rest) so_far,
-      whole-part last (command.Each each) queue rest less (subst (λ (o : Option Op). IsToldOnce o rest) (sym (op-each each queue produces)) (script.told_of asked.reply, refl)),
-    )
-
 all-part : (old new : List QueuePass) (each : EachOp) → is_producer (op_of each) ≡ true → AllZip (IsAsked (op_of each)) old new → TellsInPart old (command.Each each) new
 all-part old new each produces all begins alone missed lines number fresh has = (
   length new,
   λ queue q at.
       let beside = zip-at (IsAsked (op_of each)) old new queue q all at in
-      asked-part beside.0 q each (length new) queue (script.told missed queue lines) (slice_get_within new queue q at) produces (all-at ProducesAlone new queue q alone at) beside.2 (has queue beside.0 beside.1),
+      reply-part beside.0 q (op_of each) beside.2.reply (command.Each each) (length new) queue (script.told missed queue lines) (omega (arith, slice_get_within new queue q at)) (op-each each queue produces) produces (all-at ProducesAlone new queue q alone at) beside.2.calls (has queue beside.0 beside.1),
 )
 
 upto-part : (old new : List QueuePass) (each : EachOp) (result : Result Answer AllocError) → is_producer (op_of each) ≡ true → AsksUpTo old (op_of each) result new → TellsInPart old (command.Each each) new
@@ -118,7 +108,7 @@ upto-part old new each result produces asks begins alone missed lines number fre
             ]
         | inr there ↦
             elim (before-at op last old asks.before queue q asks.front there.1) as (λ s. ToldPart last asked queue before q) [
-              | inl less ↦ asked-part less.1 q each last queue before less.0 produces alone_there less.3 (has queue less.1 less.2)
+              | inl less ↦ reply-part less.1 q op less.3.reply asked last queue before (omega (arith, less.0)) (op-each each queue produces) produces alone_there less.3.calls (has queue less.1 less.2)
               | inr past ↦ ([], has queue q past.1 ∙ sym (append-nil before), none-part last asked queue (λ less. absurd (omega (arith, less, past.0))))
             ]
       ],
@@ -163,7 +153,7 @@ done-part v w old new asked a does begins alone missed lines number fresh has = 
             ∙ scripts-grow.told now queue lines (record { number = number; command = asked })
             ∙ ap (λ (before : List told.Entry). script.with_told now before number (script.op_at queue asked)) (before-same a number missed queue lines fresh.0)
             ∙ part.1,
-        whole-part (length new) asked queue part.0 (slice_get_within new queue q at) part.2,
+        whole-part (length new) asked queue part.0 (omega (arith, slice_get_within new queue q at)) part.2,
       ),
 )
 
