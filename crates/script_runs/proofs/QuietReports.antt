@@ -20,7 +20,7 @@ use Rattle.script_runs.proofs.Made.{IsMadeOf, all-made-of, made-where-owed}
 use Rattle.script_runs.proofs.Producers.{producers-tell}
 use Rattle.script_runs.proofs.ToldRecords.{any-kept, explicit-told, implicit-owed, implied-record, open-all}
 use Rattle.script_runs.proofs.ToldSteps.{told-legal}
-use Rattle.script_runs.specs.ScriptLaws.{ImplicitSubsAreOwed, QuietTells, QuietTellsScript, is_explicit, is_owed_some}
+use Rattle.script_runs.specs.ScriptLaws.{QuietTellsScript, is_explicit, is_owed_some}
 use Rattle.script_runs.specs.ScriptReport.{explicit_subs, implicit_subs, told_report, told_subs, told_text}
 use Rattle.script_runs.specs.Told.{producers_entries, rules_of}
 
@@ -205,7 +205,7 @@ module _ (blocks : ℕ) (limits : Limits) (history : List Entry) (p : PlainParti
           let none = none-kept (λ event. is_owed b.stream b.start event) events (false_from_ne_true _ (λ owed. false≢true (ap is_some (sym found) ∙ made-where-owed (name.Implicit kind stream) rules 0 b events (sym (bound-at kind stream) ∙ bound) owed))) in
           sym (ap (λ o. nat_lt 0 (length (owed_of events o))) bound ∙ ap (λ (owed : List Event). nat_lt 0 (length owed)) none)
 
-  pub told-where-owed : (s : SubName) → list_any (is_named s) (implicit_subs history) ≡ is_owed_some history s
+  pub told-where-owed : (s : SubName) → list_any (λ (sub : SubSummary). same_sub s sub.name) (implicit_subs history) ≡ is_owed_some history s
   told-where-owed s =
       any-named s (subs_with rules 0 [] events) ∙ (ap is_some (fold-added-at s [] made) ∙ by s)
     where
@@ -262,12 +262,6 @@ module _ (blocks : ℕ) (limits : Limits) (history : List Entry) (p : PlainParti
   report-told is_quiet queue =
       flat_map-same (summary_text queue p) (told_text queue history) (summaries_in_order p) (all-texts is_quiet queue)
       ∙ ap (flat_map (told_text queue history)) (told-in-order is_quiet)
-
-pub implicit-where-owed : ImplicitSubsAreOwed
-implicit-where-owed blocks limits history p stands s = told-where-owed blocks limits history p stands s
-
-pub quiet-told : QuietTells
-quiet-told blocks limits history p stands is_quiet = told-in-order blocks limits history p stands is_quiet
 
 -- the producers' entries tell the same report
 report-same : (queue : ℕ) (history : List Entry) → told_report queue (producers_entries history) ≡ told_report queue history

@@ -1,5 +1,5 @@
-use Rattle.script_runs.proofs.QuietReports.{implicit-where-owed}
+use Rattle.script_runs.proofs.QuietReports.{told-where-owed}
 use Rattle.script_runs.proofs.reader.laws.implicit_subs_are_owed.Goals as goal
 
 pub returns : goal.returns
-returns c = implicit-where-owed
+returns c = told-where-owed

@@ -1,5 +1,5 @@
-use Rattle.script_runs.proofs.QuietReports.{quiet-told}
+use Rattle.script_runs.proofs.QuietReports.{told-in-order}
 use Rattle.script_runs.proofs.reader.laws.quiet_tells.Goals as goal
 
 pub returns : goal.returns
-returns c = quiet-told
+returns c = told-in-order
