@@ -1,9 +1,8 @@
 -- How far a script is done.
-use Rattle.script_runs.proofs.Prelude.{IsErrAnd, owns-foreign, QueuePass, asks-foreign, gone-refl, gone-trans, all-at, zip-refl, zip-trans, met-earlier, op-refl, IsUnused, turnstiles, ClusterView, is_fixed, HasGoneOn, LooksQuiet, OperatorGoesOn, ◌≡◌, ℕ, suc, ◌+◌, ◌<◌, ◌≤◌, inl, inr, true, false, ◌||◌, Contains, List, [], ◌∷◌, ◌++◌, Result, Ok, Err, IfErr, OnOk, length, get_or, refl, sym, ap, subst, ◌∙◌, arith, append_assoc, ◌==◌, ne_eqb, append-nil, AllByRecursion, AllZip, range_with_len, AllocError, All-push, All-weaken, is_producer, Op, op_of, Command, numbers_of, Refusal, HistoryFull}
+use Rattle.script_runs.proofs.Prelude.{IsErrAnd, owns-foreign, QueuePass, asks-foreign, gone-refl, gone-trans, all-at, zip-refl, zip-trans, met-earlier, op-refl, IsUnused, turnstiles, ClusterView, is_fixed, HasGoneOn, Looks, LooksQuiet, OperatorGoesOn, ◌≡◌, ℕ, suc, ◌+◌, ◌<◌, ◌≤◌, inl, inr, true, false, ◌||◌, Contains, List, [], ◌∷◌, ◌++◌, Result, Ok, Err, IfErr, OnOk, length, get_or, refl, sym, ap, subst, ◌∙◌, arith, append_assoc, ◌==◌, ne_eqb, append-nil, AllByRecursion, AllZip, range_with_len, AllocError, All-push, All-weaken, is_producer, Op, op_of, Command, numbers_of, HistoryFull}
 use Rattle.std.proofs.lemmas.List.FromFn.{get_or-range_with_len, length-range_with_len}
 use Rattle.std.proofs.lemmas.List.Sums.{fold-append}
 use Rattle.queue_balancer.specs.Balance.{HasNoDoubles}
-use Rattle.silo_threads.specs.declared.ending.asking.Quiet.{Quiet}
 use Rattle.silo_threads.proofs.Changing.{op-trans}
 use Rattle.stream_script.specs.declared.parser.command.Command.TheVariants as command
 use Rattle.script_runs.specs.declared.reader.line.Line.{Line}
@@ -21,7 +20,7 @@ use Rattle.script_runs.proofs.Seen.{alone-as, alone-front, none-told}
 use Rattle.script_runs.specs.Scripts.{IsScript, RisesFrom}
 use Rattle.script_runs.specs.declared.runs.line.Stop.{Stop}
 use Rattle.script_runs.specs.declared.runs.line.Stop.TheVariants as stop
-use Rattle.script_runs.specs.Lines.{DoesLine, HasToldFront, IsUnquiet, MeetsLimit, StaysOpen, StopsBy, TellsInPart, WaitsAWhile, WaitsInVain, WaitsUntil, next_command}
+use Rattle.script_runs.specs.Lines.{DoesLine, HasToldFront, IsUnquiet, MeetsLimit, StaysOpen, StopsBy, TellsInPart, WaitsAWhile, WaitsInVain, next_command}
 use Rattle.script_runs.specs.Runs.{DoesAll, DoesFront, EndsLines, IsPrinted, IsUntouched, missed_in, with_printed}
 use Rattle.script_runs.proofs.Doing.{unquiet-stops}
 use Rattle.script_runs.proofs.Fronts.{drain-part, none-left}
@@ -39,12 +38,9 @@ back-one p q on alone = (alone-front (numbers_of p) p.seen on.more (subst (λ es
 pub alone-back : (ps qs : List QueuePass) → AllZip HasGoneOn ps qs → AloneProduces qs → AloneProduces ps
 alone-back ps qs on alone = all-from HasGoneOn ProducesAlone ps qs on (λ k p q had at is. back-one p q is (all-at ProducesAlone qs k q alone at))
 
-begins-one : (p q : QueuePass) → HasGoneOn p q → BeginsEmpty p → BeginsEmpty q
-begins-one p q on begins = (begins.0, ap (λ (w : QueuePass). w.turnstile) on.only ∙ begins.1, begins.2)
-
 begins-on : (ps qs : List QueuePass) → AllZip HasGoneOn ps qs → AllByRecursion BeginsEmpty ps → AllByRecursion BeginsEmpty qs
 begins-on [] [] on begins = tt
-begins-on (p ∷ ps) (q ∷ qs) on begins = (begins-one p q on.0 begins.0, begins-on ps qs on.1 begins.1)
+begins-on (p ∷ ps) (q ∷ qs) on begins = ((begins.0.0, ap (λ (w : QueuePass). w.turnstile) on.0.only ∙ begins.0.1, begins.0.2), begins-on ps qs on.1 begins.1)
 begins-on _ _ on begins = absurd on
 
 -- a caller that has made no call was told nothing
@@ -61,16 +57,14 @@ AreBelow last lines = AllByRecursion (λ (line : Line). line.number ≤ last) li
 abbrev AreUpTo : ℕ → List ℕ → Type 0
 AreUpTo last numbers = AllByRecursion (λ (number : ℕ). number ≤ last) numbers
 
-no-line : (number last : ℕ) (lines : List Line) → last < number → AreBelow last lines → HasNoLine number lines
-no-line number last lines above below = All-weaken (λ (line : Line). line.number ≤ last) (λ (line : Line). (number == line.number) ≡ false) (λ line less. ne_eqb number line.number (λ same. omega (arith, above, less, same))) lines below
-
 not-missed : (number last : ℕ) (missed : List ℕ) → last < number → AreUpTo last missed → script.is_among number missed ≡ false
 not-missed number last [] above below = refl
 not-missed number last (m ∷ missed) above below =
     ap (λ b. b || script.is_among number missed) (ne_eqb m number (λ same. omega (arith, above, below.0, same))) ∙ not-missed number last missed above below.1
 
 fresh-number : (number last : ℕ) (missed : List ℕ) (lines : List Line) → last < number → AreBelow last lines → AreUpTo last missed → IsNewNumber number missed lines
-fresh-number number last missed lines above below up = (no-line number last lines above below, not-missed number last missed above up)
+fresh-number number last missed lines above below up =
+    (All-weaken (λ (line : Line). line.number ≤ last) (λ (line : Line). (number == line.number) ≡ false) (λ line less. ne_eqb number line.number (λ same. omega (arith, above, less, same))) lines below, not-missed number last missed above up)
 
 missed-up : (a : Answer) (number last : ℕ) (missed : List ℕ) → last < number → AreUpTo last missed → AreUpTo number (with_missed a number missed)
 missed-up answer.Missed number last missed above up = (omega arith, All-weaken (λ (m : ℕ). m ≤ last) (λ (m : ℕ). m ≤ number) (λ m less. omega (arith, above, less)) missed up)
@@ -136,9 +130,6 @@ begins queues lines v old is =
     }
 
 -- a wait and a call since then are so since what was before
-until-earlier : (looks : ℕ) (result : Result Quiet Refusal) (old now new : List QueuePass) → AllZip HasGoneOn old now → WaitsUntil looks result now new → WaitsUntil looks result old new
-until-earlier looks result old now new on waits = record { before = waits.before; on = on-all old now waits.before on waits.on; ends = waits.ends }
-
 waits-earlier : (made : ℕ) (old now new : List QueuePass) → AllZip HasGoneOn old now → WaitsInVain made now new → WaitsInVain made old new
 waits-earlier made old now new on waits = record { before = waits.before; on = on-all old now waits.before on waits.on; vain = waits.vain }
 
@@ -151,7 +142,8 @@ last-earlier op result old now new on last = record { before = last.before; on =
 limit-earlier : (asked : Command) (v w u : ClusterView) (old now new : List QueuePass) → OperatorGoesOn v.operator w.operator → w.looks ≡ v.looks → AllZip HasGoneOn old now → MeetsLimit asked w now u new → MeetsLimit asked v old u new
 limit-earlier (command.Step queue op) v w u old now new goes same on meets = last-earlier op (Ok answer.Limit) old now new on meets
 limit-earlier (command.Each each) v w u old now new goes same on meets = last-earlier (op_of each) (Ok answer.Limit) old now new on meets
-limit-earlier command.Drain v w u old now new goes same on (inl full) = inl (until-earlier v.looks (Err HistoryFull) old now new on (subst (λ n. WaitsUntil n (Err HistoryFull) now new) same full))
+limit-earlier command.Drain v w u old now new goes same on (inl full) =
+    inl (record { before = full.before; on = on-all old now full.before on full.on; ends = subst (λ n. Looks n (Err HistoryFull) full.before new) same full.ends })
 limit-earlier command.Drain v w u old now new goes same on (inr some) = inr (awhile-earlier v w old now new same on some)
 limit-earlier (command.Up silo) v w u old now new goes same on meets = met-earlier v.operator w.operator u.operator goes meets
 limit-earlier (command.Down silo) v w u old now new goes same on meets = met-earlier v.operator w.operator u.operator goes meets
