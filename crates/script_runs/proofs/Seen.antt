@@ -1,5 +1,6 @@
 -- What calls add to what producers asked for and were told at a queue.
-use Rattle.script_runs.proofs.Prelude.{told_of, owns-foreign, QueuePass, called-on, QueueCalls, HasGoneOn, ProducesNone, ◌≡◌, inl, ℕ, Bool, true, false, if◌then◌else◌, List, [], ◌∷◌, ◌++◌, map, filter, Contains, Ok, refl, ap, subst, ◌∙◌, append-nil, map-append, filter-append, AllByRecursion, is_producer, Reply, Op, numbers_of, entry, Entry}
+use Rattle.script_runs.proofs.Prelude.{told_of, owns-foreign, QueuePass, called-on, QueueCalls, HasGoneOn, ProducesNone, ◌≡◌, inl, ℕ, true, true≢false, if◌then◌else◌, List, [], ◌∷◌, ◌++◌, map, filter, Contains, Ok, refl, sym, ap, subst, ◌∙◌, append-nil, map-append, filter-append, AllByRecursion, is_producer, Reply, Op, numbers_of, entry, Entry}
+use Rattle.std.proofs.lemmas.Bool.{false_from_ne_true}
 use Rattle.stream_model.specs.History as told
 use Rattle.silo_loops.specs.Passes.{OwnsNone}
 use Rattle.script_runs.specs.Told as script
@@ -29,15 +30,11 @@ told-one : (number : ℕ) (op : Op) (r : Reply) → is_producer op ≡ true → 
 told-one number op r produces =
     ap (λ b. map kept (if b then record { op = op; reply = r } ∷ [] else [])) produces
 
-never-both : (b : Bool) (P : Type 0) → (b ≡ true → P) → (P → b ≡ false) → b ≡ false
-never-both true P has none = none (has refl)
-never-both false P has none = refl
-
 -- entries of others, where nobody else produces
 told-none : (numbers : List ℕ) (es : List (Entry Op Reply)) → AreAlone numbers es → OwnsNone is_producer numbers es → all_told es ≡ []
 told-none numbers [] alone none = refl
 told-none numbers (e ∷ es) alone none =
-    let other = never-both (is_producer e.op) (Contains numbers e.number) alone.0 none.0 in
+    let other = false_from_ne_true (is_producer e.op) (λ produces. true≢false (sym produces ∙ none.0 (alone.0 produces))) in
     let rest : List told.Entry = filter (λ (e : told.Entry). is_producer e.op) (told_of es) in
     ap (λ b. map kept (if b then as_told e ∷ rest else rest)) other ∙ told-none numbers es alone.1 none.1
 
