@@ -5,6 +5,7 @@ use Rattle.std.proofs.lemmas.List.Folds.{list_any-append}
 use Rattle.stream_ident.specs.declared.ident.SubName.TheVariants as name
 use Rattle.stream_ident.specs.Blocks.{pull_size}
 use Rattle.stream_ident.specs.Implying.{added}
+use Rattle.stream_ident.proofs.WordLemmas.{cond_none}
 use Rattle.stream_model.specs.declared.op.Op.TheVariants as op
 use Rattle.stream_model.specs.declared.op.Start.{Start}
 use Rattle.stream_model.specs.declared.reply.Reply.TheVariants as reply
@@ -154,10 +155,9 @@ told-plain history p op out told keeps none = told-kept history p op out told ke
 with_value-absent : (s : SubName) (r : Subscription) (subs : List (SubName × Subscription)) → value_at same_sub s subs ≡ None → with_value same_sub s r subs ≡ subs ++ (s, r) ∷ []
 with_value-absent s r [] none = refl
 with_value-absent s r (entry ∷ subs) none =
-    (elim (same_sub s entry.0) as (λ b. (if b then Some entry.1 else value_at same_sub s subs) ≡ None → (if b then (entry.0, r) ∷ subs else entry ∷ with_value same_sub s r subs) ≡ entry ∷ (subs ++ (s, r) ∷ [])) [
-      | true ↦ λ none. absurd (cc)
-      | false ↦ λ none. ap (λ rest. entry ∷ rest) (with_value-absent s r subs none)
-    ]) none
+    let apart = cond_none (same_sub s entry.0) entry.1 (value_at same_sub s subs) none in
+    ap (λ b. if b then (entry.0, r) ∷ subs else entry ∷ with_value same_sub s r subs) apart.0
+    ∙ ap (λ rest. entry ∷ rest) (with_value-absent s r subs apart.1)
 
 told-subscribed : (history : List Entry) (p : PlainPartition) (stream : StreamId) (grain : GrainId) (from : Start) (start : Token) (position : ℕ) → sub_at p (name.Explicit (suc p.explicit)) ≡ None → IsTold history p
     → ToldAfter history (op.Subscribe stream grain from) (subscribe_at p stream grain start position)
