@@ -198,14 +198,11 @@ closed-unsubscribe_from p (name.Explicit number) (Some r) kind stream =
     cond_both (not r.is_open) _ _ (λ (out : PlainPartition × Reply). closed_after (name.Implicit kind stream) false (op.Unsubscribe (name.Explicit number)) out.1 ≡ false)
     (λ _. refl) (λ _. refl)
 
-closed-unsubscribe : (p : PlainPartition) (s : SubName) (kind : List ℕ) (stream : StreamId) → closed_after (name.Implicit kind stream) false (op.Unsubscribe s) (unsubscribe p s).1 ≡ false
-unfolding unsubscribe
-closed-unsubscribe p s kind stream = closed-unsubscribe_from p s (sub_at p s) kind stream
-
 told-unsubscribe : (history : List Entry) (p : PlainPartition) (s : SubName) → IsTold history p → ToldAfter history (op.Unsubscribe s) (unsubscribe p s)
+unfolding unsubscribe
 told-unsubscribe history p s told =
     told-kept history p (op.Unsubscribe s) (unsubscribe p s) told (keeps-unsubscribe p s)
-    (record { rule = refl; given = refl; number = refl; closed = λ kind stream. closed-unsubscribe p s kind stream })
+    (record { rule = refl; given = refl; number = refl; closed = λ kind stream. closed-unsubscribe_from p s (sub_at p s) kind stream })
 
 -- ---- a rule
 
