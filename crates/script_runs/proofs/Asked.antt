@@ -49,28 +49,22 @@ op-there queue other op differs =
       | inr not ↦ ap (λ b. if b then script.producer_op op else None) not.0
     ]
 
-step-told : (old new : List QueuePass) (queue : ℕ) (op : Op) (r : Reply) (number : ℕ) (missed : List ℕ) (lines : List Line)
-    → is_producer op ≡ true → answer_of r ≢ answer.Limit → CallerCalls old queue op (Ok r) new → AllByRecursion BeginsEmpty old → AloneProduces new → IsNewNumber number missed lines → HasTold missed lines old
-    → HasTold (with_missed (answer_of r) number missed) (lines ++ record { number = number; command = command.Step queue op } ∷ []) new
-step-told old new queue op r number missed lines produces free calls begins alone fresh has other q at =
-    let was = calls.was in
-    let a = answer_of r in
-    let asks = command.Step queue op in
-    let alone_there = all-at ProducesAlone new other q alone at in
-    elim (set-at old queue other was calls.is q calls.had (ap (λ (es : List QueuePass). slice_get es other) (sym calls.whole) ∙ at)) as (λ s. told_at q ≡ script.told (with_missed a number missed) other (lines ++ record { number = number; command = asks } ∷ [])) [
-      | inl here ↦ line-told was q op r a number missed other lines asks (all-at BeginsEmpty old queue was begins calls.had) alone_there produces free fresh (ap (λ k. script.op_at k asks) here.0 ∙ op-here queue op produces)
-          (λ before. refl)
-          (subst (λ (w : QueuePass). QueueCalls was op (Ok r) w) (sym here.1) calls.calls)
-          (has other was (ap (λ k. slice_get old k) here.0 ∙ calls.had))
-      | inr there ↦ line-none q q a number missed other lines asks fresh (op-there queue other op there.0) refl (has other q there.1)
-    ]
-
 step-tells : (old new : List QueuePass) (queue : ℕ) (op : Op) (r : Reply) → is_producer op ≡ true → answer_of r ≢ answer.Limit → CallerCalls old queue op (Ok r) new → Tells old (command.Step queue op) (answer_of r) new
 step-tells old new queue op r produces free calls =
     let was = calls.was in
     let here : slice_get new queue ≡ Some calls.is = ap (λ (es : List QueuePass). slice_get es queue) calls.whole ∙ get-set old queue was calls.is calls.had in
     record {
-      told = λ begins alone missed lines number fresh has. step-told old new queue op r number missed lines produces free calls begins alone fresh has;
+      told = λ begins alone missed lines number fresh has other q at.
+          let a = answer_of r in
+          let asks = command.Step queue op in
+          let alone_there = all-at ProducesAlone new other q alone at in
+          elim (set-at old queue other was calls.is q calls.had (ap (λ (es : List QueuePass). slice_get es other) (sym calls.whole) ∙ at)) as (λ s. told_at q ≡ script.told (with_missed a number missed) other (lines ++ record { number = number; command = asks } ∷ [])) [
+            | inl here ↦ line-told was q op r a number missed other lines asks (all-at BeginsEmpty old queue was begins calls.had) alone_there produces free fresh (ap (λ k. script.op_at k asks) here.0 ∙ op-here queue op produces)
+                (λ before. refl)
+                (subst (λ (w : QueuePass). QueueCalls was op (Ok r) w) (sym here.1) calls.calls)
+                (has other was (ap (λ k. slice_get old k) here.0 ∙ calls.had))
+            | inr there ↦ line-none q q a number missed other lines asks fresh (op-there queue other op there.0) refl (has other q there.1)
+          ];
       printed = λ begins alone missed lines number fresh has silos.
           line-printed was calls.is op r number missed queue lines (all-at BeginsEmpty old queue was begins calls.had) (all-at ProducesAlone new queue calls.is alone here) produces free fresh calls.calls (has queue was calls.had);
     }
