@@ -1,5 +1,5 @@
 -- What a run prints, by what its script did and how its cluster has ended.
-use Rattle.script_runs.proofs.Prelude.{told_of, owns-foreign, LineView, QueuePass, places, asks-foreign, zip-at, turnstiles, AreAtQueues, ClusterView, HasFinished, IsAtQueue, IsConfig, IsNew, HasGoneOn, ◌≡◌, ℕ, suc, ◌+◌, inl, inr, true, List, [], ◌∷◌, ◌++◌, length, map, Contains, Some, refl, sym, ap, subst, ◌∙◌, add-one, arith, true≢false, append-nil, AllByRecursion, AllZip, flat_map, range_with_len, slice_get, All-weaken, is_producer, Reply, Op, PlainPartition, queue_report, report_from, numbers_of, Entry, codes}
+use Rattle.script_runs.proofs.Prelude.{told_of, owns-foreign, QueuePass, asks-foreign, zip-at, turnstiles, ClusterView, HasFinished, IsAtQueue, IsConfig, IsNew, HasGoneOn, ◌≡◌, ℕ, suc, ◌+◌, inl, inr, true, List, [], ◌∷◌, ◌++◌, length, map, Contains, Some, refl, sym, ap, subst, ◌∙◌, add-one, arith, true≢false, append-nil, AllByRecursion, AllZip, flat_map, range_with_len, slice_get, All-weaken, is_producer, Reply, Op, PlainPartition, queue_report, report_from, numbers_of, Entry, codes}
 use Rattle.std.proofs.lemmas.Slice.Zip.{AllZip-long}
 use Rattle.stream_model.specs.Looks.{quiet}
 use Rattle.silo_threads.specs.declared.ending.finishing.Finished.{Finished}
@@ -21,22 +21,20 @@ use Rattle.script_runs.proofs.Seen.{none-told}
 use Rattle.script_runs.specs.declared.runs.running.ScriptEnd.{ScriptEnd}
 use Rattle.script_runs.specs.declared.runs.running.ScriptEnd.TheVariants as end
 use Rattle.script_runs.specs.Lines.{HasToldFront}
-use Rattle.script_runs.specs.Runs.{EndsRun, EndsScript, IsPrinted, IsUntouched, TellFront, missed_in, run_end}
+use Rattle.script_runs.specs.Runs.{EndsRun, EndsScript, IsPrinted, IsUntouched, TellFront, TellScript, missed_in, run_end}
 use Rattle.script_runs.proofs.Fronts.{none-part}
 use Rattle.script_runs.proofs.Placing.{all-from}
 use Rattle.script_runs.proofs.Progress.{alone-back}
 
 -- ---- a new cluster
 
-begins-empty : (config : Config) (caller : List QueuePass) (lines : List LineView) → IsConfig config → AreAtQueues config lines → turnstiles caller ≡ places lines → AllByRecursion BeginsEmpty caller
-begins-empty config caller lines is at beside =
-    All-weaken (IsAtQueue config) BeginsEmpty (λ (p : QueuePass) at. (at.0, at.1, (config.blocks, config.limits, is.blocks.0, ap (λ x. x.state) at.2))) caller (at-queues config lines caller at beside)
-
 pub untouched : (config : Config) (c : ClusterView) (caller : List QueuePass) → IsConfig config → IsNew config c caller → IsUntouched config.silos c caller
 untouched config c caller is new =
     record {
       live = new.opened.live;
-      empty = begins-empty config caller c.operator.lines is new.opened.at new.opened.beside;
+      empty =
+          All-weaken (IsAtQueue config) BeginsEmpty (λ (p : QueuePass) at. (at.0, at.1, (config.blocks, config.limits, is.blocks.0, ap (λ x. x.state) at.2)))
+          caller (at-queues config c.operator.lines caller new.opened.at new.opened.beside);
       unused = new.opened.unused;
     }
 
@@ -78,8 +76,7 @@ told-alike caller histories queue history begun made at =
     let is = beside.2 in
     (p, beside.1, none-told p (at_end p history) (record { on = ends-on p history is; none = owns-foreign is_producer (numbers_of p) is.rest is.foreign }) (made-alone caller histories queue p history made beside.1 at))
 
-histories-tell : (caller : List QueuePass) (histories : List (List (Entry Op Reply))) (missed : List ℕ) (lines : List Line) → AllZip HasBegun caller histories → CallersAloneProduce (caller ∷ []) histories → HasTold missed lines caller
-    → (queue : ℕ) (history : List (Entry Op Reply)) → slice_get histories queue ≡ Some history → script.producers_entries (told_of history) ≡ script.told missed queue lines
+histories-tell : (caller : List QueuePass) (histories : List (List (Entry Op Reply))) (missed : List ℕ) (lines : List Line) → AllZip HasBegun caller histories → CallersAloneProduce (caller ∷ []) histories → HasTold missed lines caller → TellScript missed lines histories
 histories-tell caller histories missed lines begun made told queue history at = let alike = told-alike caller histories queue history begun made at in alike.2 ∙ told queue alike.0 alike.1
 
 -- so is what it tells of a front of a script
@@ -117,10 +114,6 @@ report-from _ _ _ queue missed lines traces done told = absurd traces
 pub new-queues : (config : Config) (c : ClusterView) (caller : List QueuePass) → IsNew config c caller → length caller ≡ config.queues
 new-queues config c caller new = beside-length caller c.operator.lines new.opened.beside ∙ new.opened.queues
 
-count-queues : (config : Config) (c : ClusterView) (caller now : List QueuePass) (histories : List (List (Entry Op Reply))) → IsNew config c caller → turnstiles now ≡ turnstiles caller → AllZip HasBegun now histories → length histories ≡ config.queues
-count-queues config c caller now histories new same begun =
-    AllZip-long HasBegun now histories begun ∙ turnstiles-length caller now same ∙ new-queues config c caller new
-
 module _ {H : Type 0} (entries : H → List (Entry Op Reply)) where
   -- what a script has printed and told that was done in part or as a whole, where nobody else has produced
   front-done : (config : Config) (lines : List Line) (c w : ClusterView) (caller now : List QueuePass) (found : List ScriptLine) (how : ScriptEnd) (histories : List (List (Entry Op Reply))) → IsConfig config → IsNew config c caller → EndsScript how lines c caller found w now
@@ -155,7 +148,7 @@ module _ {H : Type 0} (entries : H → List (Entry Op Reply)) where
       let missed = missed_in found in
       let tell = histories-tell now histories missed lines begun fin.producers (done.told config.silos fresh others) in
       let whole = report-from fin.finished.last histories traces.partitions.items 0 missed lines answers.2 answers.3 (λ k history at. subst (λ (q : ℕ). script.producers_entries (told_of history) ≡ script.told missed q lines) (omega arith) (tell k history at)) in
-      let queues = count-queues config c caller now histories new same begun in (
+      let queues = AllZip-long HasBegun now histories begun ∙ turnstiles-length caller now same ∙ new-queues config c caller new in (
         done.printed config.silos fresh others,
         answers.4 ∙ ap (λ (rest : List ℕ). codes "report\n" ++ rest) (whole ∙ ap (λ (many : ℕ). flat_map (λ q. told_report q (script.told missed q lines)) (range_with_len 0 many)) queues),
         tell,
