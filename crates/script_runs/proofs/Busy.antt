@@ -19,14 +19,10 @@ count-keeps : (p : PlainPartition) (blocks count : ℕ) → KeepsDry p (pull_cou
 unfolding pull_count
 count-keeps p blocks count = cond_both (count == 0) (p, _) _ (KeepsDry p) (λ _ e. refl) (λ _. events-keep p _ _ _)
 
-want-keeps : (p : PlainPartition) (want : ℕ) → KeepsDry p (pull_want p want)
-unfolding pull_want
-want-keeps p want = count-keeps p _ _
-
 pull-keeps : (p : PlainPartition) (generation most : ℕ) → KeepsDry p (pull p generation most)
-unfolding pull
+unfolding pull pull_want
 pull-keeps p generation most =
-    cond_both (is_stale p generation) (p, _) _ (KeepsDry p) (λ _ e. refl) (λ _. cond_both (p.high == length p.log) (p, reply.Dry) _ (KeepsDry p) (λ _ e. refl) (λ _. want-keeps p _))
+    cond_both (is_stale p generation) (p, _) _ (KeepsDry p) (λ _ e. refl) (λ _. cond_both (p.high == length p.log) (p, reply.Dry) _ (KeepsDry p) (λ _ e. refl) (λ _. count-keeps p _ _))
 
 -- a call that found nothing has changed nothing
 keeps : (p : PlainPartition) (o : Op) → found_nothing o (replied p o) ≡ true → after p o ≡ p
