@@ -101,10 +101,6 @@ module _ (before : List Entry) (p : PlainPartition) (knows : Knows before p) whe
       let closed = knows.closed number r is ∙ open_sub in
       sym (λ i. if closed i then reply.Closed else if given i then reply.Unsubscribed 0 else reply.NoSuch))
 
-  answers-unsubscribe : (s : SubName) → Answers before (op.Unsubscribe s) (unsubscribe p s)
-  unfolding unsubscribe
-  answers-unsubscribe s = answers-unsubscribe_from s (sub_at p s) refl
-
   rule-there : (kind namespace : List ℕ) → has_rule past kind namespace ≡ list_any (λ (rule : Rule). same_name kind rule.kind && same_name namespace rule.namespace) p.rules
   rule-there kind namespace = ap (list_any (λ (rule : Rule). same_name kind rule.kind && same_name namespace rule.namespace)) knows.rules
 
@@ -120,10 +116,10 @@ module _ (before : List Entry) (p : PlainPartition) (knows : Knows before p) whe
       ∙ sym (ap (λ b. if b then reply.RuleThere else reply.RuleAdded (batch_count past)) (rule-there kind namespace ∙ new))))
 
   answers-step : (o : Op) → is_producer o ≡ true → Answers before o (step p o)
-  unfolding step
+  unfolding step unsubscribe
   answers-step (op.Publish stream payloads) asks = answers-publish stream payloads
   answers-step (op.Subscribe stream grain start) asks = answers-subscribe stream grain start
-  answers-step (op.Unsubscribe sub) asks = answers-unsubscribe sub
+  answers-step (op.Unsubscribe sub) asks = answers-unsubscribe_from sub (sub_at p sub) refl
   answers-step (op.AddRule kind namespace) asks = answers-add_rule kind namespace
   answers-step o asks = absurd (false≢true asks)
 
