@@ -2,7 +2,7 @@
 use Rattle.script_runs.proofs.Prelude.{◌≡◌, ◌∙◌, ap, sym, refl, ℕ, ◌+◌, ◌==◌, ◌&&◌, ◌||◌, not, nat_lt, false, List, length, map, Option, Some, None, cond_both, same_grain, same_sub, GrainId, StreamId, SubName, BATCH_EVENTS, Token, grain_at, is_spent, sub_at, is_stale, rewound, rewound_where, Reply, PlainPartition, Subscription}
 use Rattle.std.proofs.lemmas.Simd.{map-map}
 use Rattle.stream_ident.specs.declared.ident.SubName.TheVariants as name
-use Rattle.stream_model.specs.Publishing.{publish, unsubscribe, unsubscribe_from}
+use Rattle.stream_model.specs.Publishing.{publish, unsubscribe_from}
 use Rattle.stream_model.specs.Pulling.{move, move_to, purge, purge_to, retry, retry_of}
 use Rattle.stream_model.specs.Turns.{deactivate, deactivate_in}
 use Rattle.step_core.proofs.KeptNames.{Face, StayIn, face}
@@ -39,7 +39,7 @@ keeps-publish p stream payloads =
     cond_both ((length payloads == 0) || nat_lt BATCH_EVENTS (length payloads)) _ _ (Keeps p) (λ _. (refl, refl, refl))
     (λ _. cond_both (nat_lt p.limits.events (length p.log + length payloads)) _ _ (Keeps p) (λ _. (refl, refl, refl)) (λ _. (refl, refl, refl)))
 
-keeps-unsubscribe_from : (p : PlainPartition) (s : SubName) (found : Option Subscription) → sub_at p s ≡ found → Keeps p (unsubscribe_from p s found)
+pub keeps-unsubscribe_from : (p : PlainPartition) (s : SubName) (found : Option Subscription) → sub_at p s ≡ found → Keeps p (unsubscribe_from p s found)
 unfolding unsubscribe_from
 keeps-unsubscribe_from p (name.Explicit number) None is = (refl, refl, refl)
 keeps-unsubscribe_from p (name.Implicit kind stream) None is = (refl, refl, refl)
@@ -47,10 +47,6 @@ keeps-unsubscribe_from p (name.Implicit kind stream) (Some r) is = (refl, refl, 
 keeps-unsubscribe_from p (name.Explicit number) (Some r) is =
     cond_both (not r.is_open) _ _ (Keeps p) (λ _. (refl, refl, refl))
     (λ _. (with_value-map registered same_sub (name.Explicit number) r (record r { is_open = false }) p.subs is (λ k. refl), refl, refl))
-
-pub keeps-unsubscribe : (p : PlainPartition) (s : SubName) → Keeps p (unsubscribe p s)
-unfolding unsubscribe
-keeps-unsubscribe p s = keeps-unsubscribe_from p s (sub_at p s) refl
 
 keeps-retry_of : (p : PlainPartition) (s : SubName) (found : Option Subscription) → sub_at p s ≡ found → Keeps p (retry_of p s found)
 unfolding retry_of

@@ -17,7 +17,7 @@ use Rattle.stream_model.specs.Step.{step}
 use Rattle.stream_laws.proofs.Summary.{summary}
 use Rattle.step_core.proofs.KeptNames.{stay-ack, stay-begin, stay-commit, stay-deliver}
 use Rattle.script_runs.proofs.Made.{AreWithin, IsMadeOf, all-made-of}
-use Rattle.script_runs.proofs.Registrations.{Keeps, Registration, keeps-deactivate, keeps-faces, keeps-move, keeps-publish, keeps-purge, keeps-retry, keeps-unsubscribe, registered, registrations}
+use Rattle.script_runs.proofs.Registrations.{Keeps, Registration, keeps-deactivate, keeps-faces, keeps-move, keeps-publish, keeps-purge, keeps-retry, keeps-unsubscribe_from, registered, registrations}
 use Rattle.script_runs.specs.Told.{is_subscribed, rule_of, rules_of, subscribed_count}
 
 -- the number and the grain of an explicit registration
@@ -198,12 +198,6 @@ closed-unsubscribe_from p (name.Explicit number) (Some r) kind stream =
     cond_both (not r.is_open) _ _ (λ (out : PlainPartition × Reply). closed_after (name.Implicit kind stream) false (op.Unsubscribe (name.Explicit number)) out.1 ≡ false)
     (λ _. refl) (λ _. refl)
 
-told-unsubscribe : (history : List Entry) (p : PlainPartition) (s : SubName) → IsTold history p → ToldAfter history (op.Unsubscribe s) (unsubscribe p s)
-unfolding unsubscribe
-told-unsubscribe history p s told =
-    told-kept history p (op.Unsubscribe s) (unsubscribe p s) told (keeps-unsubscribe p s)
-    (record { rule = refl; given = refl; number = refl; closed = λ kind stream. closed-unsubscribe_from p s (sub_at p s) kind stream })
-
 -- ---- a rule
 
 told-add_rule : (history : List Entry) (p : PlainPartition) (kind namespace : List ℕ) → IsTold history p → ToldAfter history (op.AddRule kind namespace) (add_rule p kind namespace)
@@ -302,11 +296,13 @@ told-pull history p generation max_events fits told =
 -- ---- every step
 
 told-step : (history : List Entry) (p : PlainPartition) (o : Op) → Fits (summary (reverse history)) p → IsTold history p → ToldAfter history o (step p o)
-unfolding step
+unfolding step unsubscribe
 told-step history p (op.Publish stream payloads) fits told = told-plain history p (op.Publish stream payloads) _ told (keeps-publish p stream payloads) refl
 told-step history p (op.Subscribe stream grain start) fits told =
     told-subscribe history p stream grain start (fits.names.unused (suc p.explicit) (omega arith)) told
-told-step history p (op.Unsubscribe sub) fits told = told-unsubscribe history p sub told
+told-step history p (op.Unsubscribe sub) fits told =
+    told-kept history p (op.Unsubscribe sub) (unsubscribe p sub) told (keeps-unsubscribe_from p sub (sub_at p sub) refl)
+    (record { rule = refl; given = refl; number = refl; closed = closed-unsubscribe_from p sub (sub_at p sub) })
 told-step history p (op.AddRule kind namespace) fits told = told-add_rule history p kind namespace told
 told-step history p (op.Pull generation max_events) fits told = told-pull history p generation max_events fits told
 told-step history p (op.Deliver generation sub) fits told = told-plain history p (op.Deliver generation sub) _ told (keeps-faces p (step p (op.Deliver generation sub)) (stay-deliver p generation sub)) refl
