@@ -1,5 +1,5 @@
 -- The silos that live, by a line of a script.
-use Rattle.script_runs.proofs.Prelude.{lives-at, not-fixed, op-refl, ClusterView, IsDown, IsUp, MayGo, OperatorGoesOn, ◌≡◌, ◌≢◌, ℕ, zero, suc, ◌<◌, true, false, ◌||◌, not, List, [], ◌∷◌, ◌++◌, length, Some, Contains, filter, remove, refl, sym, ap, subst, ◌∙◌, arith, ◌==◌, if◌then◌else◌, cond_both, eq-eqb, eqb-true, ne_eqb, or_parts, or_right, slice_get_within, slice_get, Command}
+use Rattle.script_runs.proofs.Prelude.{lives-at, not-fixed, op-refl, ClusterView, IsDown, IsUp, MayGo, OperatorGoesOn, ◌≡◌, ◌≢◌, ℕ, zero, suc, true, false, ◌||◌, not, List, [], ◌∷◌, ◌++◌, length, Some, Contains, filter, remove, refl, sym, ap, subst, ◌∙◌, arith, ◌==◌, if◌then◌else◌, cond_both, eq-eqb, eqb-true, ne_eqb, or_parts, or_right, slice_get_within, slice_get, Command}
 use Rattle.std.proofs.lemmas.Bool.{false_from_ne_true}
 use Rattle.std.proofs.lemmas.List.Folds.{list_any_at}
 use Rattle.std.proofs.lemmas.List.Quantifiers.{all_pairs_remove}
@@ -47,12 +47,6 @@ removed (x ∷ xs) (suc place) silo once at =
     ap (λ ys. x ∷ ys) (removed xs place silo (HasNoDoubles-rest x xs once) at)
     ∙ ap (λ b. if not b then x ∷ filter (λ (other : ℕ). not (other == silo)) xs else filter (λ (other : ℕ). not (other == silo)) xs) (sym other)
 
-remove-once : (live : List ℕ) (place silo : ℕ) → HasNoDoubles live → slice_get live place ≡ Some silo → HasNoDoubles (remove live place)
-remove-once live place silo once at = all_pairs_remove (λ (one other : ℕ). one ≢ other) live place (slice_get_within live place silo at) once
-
-long : (n : ℕ) → 1 < n → (n == 1) ≡ false
-long n more = ne_eqb n 1 (λ same. omega (arith, more, same))
-
 -- ---- silos may still come and go
 
 open-after : (v w : ClusterView) → (w.is_parked ≡ v.is_parked) × (w.rounds ≡ v.rounds) × (w.looks ≡ v.looks) → w.is_halted ≡ false → StaysOpen v w
@@ -95,12 +89,12 @@ pub went : (v w : ClusterView) (silo : ℕ) → MayGo v silo → IsDown v silo w
 went v w silo may goes =
     let live = v.operator.live in
     let left = goes.left in
-    let more = long (length live) may.1 in
+    let more = ne_eqb (length live) 1 (λ same. omega (arith, may.1, same)) in
     record {
       on = goes.on;
       live = λ once. (
         left.live ∙ removed live goes.place silo once goes.stood ∙ ap (λ b. if b then live else filter (λ (other : ℕ). not (other == silo)) live) (sym more),
-        subst (λ (now : List ℕ). HasNoDoubles now) (sym left.live) (remove-once live goes.place silo once goes.stood),
+        subst (λ (now : List ℕ). HasNoDoubles now) (sym left.live) (all_pairs_remove (λ (one other : ℕ). one ≢ other) live goes.place (slice_get_within live goes.place silo goes.stood) once),
       );
       prints = λ missed silos lines number is.
           ap (λ (there : List ℕ). refused_where number (not (is_among silo there) || (length there == 1))) (sym is)
