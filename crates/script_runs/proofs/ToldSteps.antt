@@ -275,23 +275,18 @@ told-pulled history p generation max_events low high fits told =
     next : AreImplied (published_events history) p.subs (subs_with p.rules p.high p.subs (between p.log p.high high))
     next = fold-told (published_events history) p.subs (all_implied p.rules p.high (between p.log p.high high)) more told.implied
 
-told-pull_want : (history : List Entry) (p : PlainPartition) (generation max_events want : ℕ) → Fits (summary (reverse history)) p → IsTold history p
-    → ToldAfter history (op.Pull generation max_events) (pull_want p want)
-unfolding pull_want pull_count
-told-pull_want history p generation max_events want fits told =
-    cond_both (min want (room p + BLOCK_EVENTS * drops p want) == 0) _ _ (ToldAfter history (op.Pull generation max_events))
-    (λ _. told-plain history p (op.Pull generation max_events) (p, _) told (refl, refl, refl) refl)
-    (λ _. told-pulled history p generation max_events (p.low + BLOCK_EVENTS * drops p want) (p.high + min want (room p + BLOCK_EVENTS * drops p want)) fits told)
-
 told-pull : (history : List Entry) (p : PlainPartition) (generation max_events : ℕ) → Fits (summary (reverse history)) p → IsTold history p
     → ToldAfter history (op.Pull generation max_events) (pull p generation max_events)
-unfolding pull
+unfolding pull pull_want pull_count
 told-pull history p generation max_events fits told =
+    let want = min (pull_size max_events) (length p.log - p.high) in
     cond_both (is_stale p generation) _ _ (ToldAfter history (op.Pull generation max_events))
     (λ _. told-plain history p (op.Pull generation max_events) (p, _) told (refl, refl, refl) refl)
     (λ _. cond_both (p.high == length p.log) _ _ (ToldAfter history (op.Pull generation max_events))
     (λ _. told-plain history p (op.Pull generation max_events) (p, reply.Dry) told (refl, refl, refl) refl)
-    (λ _. told-pull_want history p generation max_events (min (pull_size max_events) (length p.log - p.high)) fits told))
+    (λ _. cond_both (min want (room p + BLOCK_EVENTS * drops p want) == 0) _ _ (ToldAfter history (op.Pull generation max_events))
+    (λ _. told-plain history p (op.Pull generation max_events) (p, _) told (refl, refl, refl) refl)
+    (λ _. told-pulled history p generation max_events (p.low + BLOCK_EVENTS * drops p want) (p.high + min want (room p + BLOCK_EVENTS * drops p want)) fits told)))
 
 -- ---- every step
 
