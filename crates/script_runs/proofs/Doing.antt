@@ -8,7 +8,7 @@ use Rattle.stream_script.specs.declared.parser.command.Command.TheVariants as co
 use Rattle.script_runs.specs.ScriptReport.{live_after}
 use Rattle.script_runs.specs.Told as script
 use Rattle.script_runs.proofs.Changing.{came, is-last, lacks, same-on, stays, went}
-use Rattle.script_runs.proofs.Fronts.{drain-part, each-part, silent-part, step-part}
+use Rattle.script_runs.proofs.Fronts.{each-part, silent-part, step-part, told-part}
 use Rattle.script_runs.proofs.Growing.{scripts-grow}
 use Rattle.script_runs.specs.declared.producer.answer.Answer.{Answer}
 use Rattle.script_runs.specs.declared.producer.answer.Answer.TheVariants as answer
@@ -125,4 +125,4 @@ pub unquiet-ends : (v : ClusterView) (looks : ℕ) (old new : List QueuePass) (r
 unquiet-ends v looks old new (Ok a) why is same on at tells unquiet = absurd is
 unquiet-ends v looks old new (Err h) why is same on at tells unquiet =
     let stops = unquiet-stops h v v looks old new same (subst (λ (s : Stop). IsUnquiet s looks old new) (sym is) unquiet) in
-    record { line = tt; part = drain-part old new tells; stops = λ free. stops; on = on; at = at; cluster = op-refl v.operator }
+    record { line = tt; part = told-part old new command.Drain answer.Taken tells.told; stops = λ free. stops; on = on; at = at; cluster = op-refl v.operator }

@@ -1,5 +1,5 @@
 -- What was told of a script up to the line that was stopped.
-use Rattle.script_runs.proofs.Prelude.{owns-foreign, QueuePass, asks-foreign, all-at, zip-at, QueueCalls, ClusterView, ProducesNone, ◌≡◌, ◌⊎◌, inl, inr, if◌then◌else◌, ℕ, ◌<◌, ◌≤◌, true, arith, length, List, [], ◌∷◌, ◌++◌, Option, Some, None, Result, Ok, Err, refl, sym, ap, subst, ◌∙◌, append-nil, slice_get_within, AllZip, slice_get, AllocError, is_producer, Reply, Op, op_of, Command, EachOp, numbers_of, Entry, Refusal}
+use Rattle.script_runs.proofs.Prelude.{owns-foreign, QueuePass, asks-foreign, all-at, zip-at, QueueCalls, ProducesNone, ◌≡◌, inl, inr, if◌then◌else◌, ℕ, ◌<◌, ◌≤◌, true, arith, length, List, [], ◌∷◌, ◌++◌, Option, Some, None, Result, Ok, Err, refl, sym, ap, subst, ◌∙◌, append-nil, slice_get_within, AllByRecursion, AllZip, slice_get, AllocError, is_producer, Reply, Op, op_of, Command, EachOp, numbers_of, Entry, Refusal}
 use Rattle.stream_model.specs.History as told
 use Rattle.stream_script.specs.declared.parser.command.Command.TheVariants as command
 use Rattle.script_runs.specs.declared.reader.line.Line.{Line}
@@ -7,12 +7,12 @@ use Rattle.script_runs.specs.Told as script
 use Rattle.script_runs.proofs.Growing.{scripts-grow}
 use Rattle.script_runs.specs.declared.producer.answer.Answer.{Answer}
 use Rattle.script_runs.specs.declared.producer.answer.Answer.TheVariants as answer
-use Rattle.script_runs.specs.Telling.{AsksEachOnce, AsksOnce, AsksUpTo, IsAsked, ProducesAlone, Tells, told_at, with_missed}
+use Rattle.script_runs.specs.Telling.{AloneProduces, AsksEachOnce, AsksOnce, AsksUpTo, BeginsEmpty, HasTold, IsAsked, IsNewNumber, ProducesAlone, told_at, with_missed}
 use Rattle.script_runs.proofs.Asked.{before-at, op-here, op-there}
 use Rattle.script_runs.proofs.Placing.{set-at}
 use Rattle.script_runs.proofs.Replying.{before-same}
 use Rattle.script_runs.proofs.Seen.{called-told, none-told}
-use Rattle.script_runs.specs.Lines.{DoesLine, IsToldInPart, IsToldOnce, TellsInPart}
+use Rattle.script_runs.specs.Lines.{IsToldInPart, IsToldOnce, TellsInPart}
 
 -- ---- parts of a line
 
@@ -119,21 +119,12 @@ each-part old new each (Ok answer.Limit) produces once = upto-part old new each 
 each-part old new each (Ok a) produces once = all-part old new each produces once
 each-part old new each (Err e) produces once = upto-part old new each (Err e) produces once
 
--- ---- the other lines
+-- ---- a line that asks for nothing
 
-pub drain-part : (old new : List QueuePass) → Tells old command.Drain answer.Taken new → TellsInPart old command.Drain new
-drain-part old new tells begins alone missed lines number fresh has = (
-  0,
-  λ queue q at.
-      let all = tells.told begins alone missed lines number fresh has in
-      ([], all queue q at ∙ scripts-grow.told missed queue lines (record { number = number; command = command.Drain }) ∙ sym (append-nil (script.told missed queue lines)), none-part 0 command.Drain queue (λ less. refl)),
-)
-
--- one that asks for nothing
 pub silent-part : (passes : List QueuePass) (said : Command) → ((queue : ℕ) → script.op_at queue said ≡ None) → TellsInPart passes said passes
 silent-part passes said none begins alone missed lines number fresh has = (0, λ queue q at. ([], has queue q at ∙ sym (append-nil (script.told missed queue lines)), none-part 0 said queue (λ less. none queue)))
 
--- ---- a line that was done, but isn't noted
+-- ---- a line that was told as a whole
 
 with-part : (missed : List ℕ) (before : List told.Entry) (number : ℕ) (asked : Option Op) → (rest : List told.Entry) × (script.with_told missed before number asked ≡ before ++ rest) × IsToldOnce asked rest
 with-part missed before number None = ([], sym (append-nil before), refl)
@@ -141,12 +132,15 @@ with-part missed before number (Some op) =
     let r = script.told_reply missed before number op in
     (record { op = op; reply = r } ∷ [], refl, (r, refl))
 
-pub done-part : (v w : ClusterView) (old new : List QueuePass) (asked : Command) (a : Answer) → DoesLine v old asked a w new → TellsInPart old asked new
-done-part v w old new asked a does begins alone missed lines number fresh has = (
+pub told-part : (old new : List QueuePass) (asked : Command) (a : Answer)
+    → (AllByRecursion BeginsEmpty old → AloneProduces new → (missed : List ℕ) (lines : List Line) (number : ℕ) → IsNewNumber number missed lines
+    → HasTold missed lines old → HasTold (with_missed a number missed) (lines ++ record { number = number; command = asked } ∷ []) new)
+    → TellsInPart old asked new
+told-part old new asked a tells begins alone missed lines number fresh has = (
   length new,
   λ queue q at.
       let now = with_missed a number missed in
-      let all = does.told begins alone missed lines number fresh has in
+      let all = tells begins alone missed lines number fresh has in
       let part = with-part now (script.told missed queue lines) number (script.op_at queue asked) in (
         part.0,
         all queue q at

@@ -23,7 +23,7 @@ use Rattle.script_runs.specs.declared.runs.line.Stop.TheVariants as stop
 use Rattle.script_runs.specs.Lines.{DoesLine, HasToldFront, IsUnquiet, MeetsLimit, StaysOpen, StopsBy, TellsInPart, WaitsAWhile, WaitsInVain, next_command}
 use Rattle.script_runs.specs.Runs.{DoesAll, DoesFront, EndsLines, IsPrinted, IsUntouched, missed_in, with_printed}
 use Rattle.script_runs.proofs.Doing.{unquiet-stops}
-use Rattle.script_runs.proofs.Fronts.{drain-part, none-left}
+use Rattle.script_runs.proofs.Fronts.{none-left, told-part}
 use Rattle.script_runs.proofs.Placing.{all-from}
 
 -- ---- passes that have seen more
@@ -276,5 +276,5 @@ module _ {lines : List Line} {v : ClusterView} {old : List QueuePass} {done : Li
       stopped (Err why) why found w new refl refl on at (op-refl w.operator)
       (λ silos untouched alone.
       subst (λ (left : List Line). HasToldFront (missed_in found) done left new) (sym none)
-      (drain-part now new tells (empties untouched) alone (missed_in found) done (suc far.last) new-number (has-told new on silos untouched alone)))
+      (told-part now new command.Drain answer.Taken tells.told (empties untouched) alone (missed_in found) done (suc far.last) new-number (has-told new on silos untouched alone)))
       (subst (λ (left : List Line). StopsBy why (next_command left) v old w new) (sym none) (stops-later why command.Drain w new free (unquiet-stops why w w looks now new same unquiet)))

@@ -6,7 +6,7 @@ use Rattle.script_runs.specs.declared.runs.line.Stop.{Stop}
 use Rattle.script_runs.specs.declared.runs.line.Stop.TheVariants as stop
 use Rattle.script_runs.specs.declared.reader.script_line.ScriptLine.{ScriptLine}
 use Rattle.script_runs.proofs.Progress.{Progress, begins, does, line-stopped, stops-later, wait-ends}
-use Rattle.script_runs.proofs.Fronts.{done-part}
+use Rattle.script_runs.proofs.Fronts.{told-part}
 use Rattle.script_runs.proofs.runs.running.do_lines.Goals as goal
 
 pub loop-line-init : goal.loop-line-init
@@ -41,7 +41,7 @@ returns-in_err-note g c =
     let new = c.do_line.new.caller in
     let result = c.from_residual-in_err-note.result in
     let err = subst (λ (why : Stop). IsErrAnd result (λ h. h ≡ why)) c.in_err-note.ensures.memory c.from_residual-in_err-note.ensures.1 in
-    let part = done-part c.loop-line.cluster u c.loop-line.caller new line.command c.in_ok-answer.answer c.in_ok-answer.ensures.line in
+    let part = told-part c.loop-line.caller new line.command c.in_ok-answer.answer c.in_ok-answer.ensures.line.told in
     line-stopped c.loop-line.invariant result stop.Memory c.note.new.printed.items line u new err c.in_err-note.ensures.same turn.0 turn.1 did.on did.at did.cluster part tt
 
 pub returns : goal.returns
