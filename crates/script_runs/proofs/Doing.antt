@@ -69,7 +69,7 @@ pub each-ends : (v : ClusterView) (old new : List QueuePass) (each : EachOp) (as
     → IfOk asked (λ a. TellsUnlessLimit old (command.Each each) a new) → AsksEachOnce old (op_of each) asked new → EndsAsking old (op_of each) asked new
     → EndsLine v old (command.Each each) (unless_limit asked) v new
 each-ends v old new each asked produces on at tells once ends =
-    asked-ends v old new (command.Each each) asked (λ live. refl) (λ drains. absurd (cc drains)) on at tells (each-part old new each asked produces once)
+    asked-ends v old new (command.Each each) asked (λ live. refl) (λ drains. absurd (cc drains)) on at tells (each-part old new each asked produces once tells)
     (λ is. subst (λ (r : Result Answer AllocError). EndsAsking old (op_of each) r new) is ends)
 
 -- ---- a line by which a silo was to come or to go

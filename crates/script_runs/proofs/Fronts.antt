@@ -1,5 +1,5 @@
 -- What was told of a script up to the line that was stopped.
-use Rattle.script_runs.proofs.Prelude.{owns-foreign, QueuePass, asks-foreign, all-at, zip-at, QueueCalls, ProducesNone, ◌≡◌, inl, inr, if◌then◌else◌, ℕ, ◌<◌, ◌≤◌, true, arith, length, List, [], ◌∷◌, ◌++◌, Option, Some, None, Result, Ok, Err, refl, sym, ap, subst, ◌∙◌, append-nil, slice_get_within, AllByRecursion, AllZip, slice_get, AllocError, is_producer, Reply, Op, op_of, Command, EachOp, numbers_of, Entry, Refusal}
+use Rattle.script_runs.proofs.Prelude.{owns-foreign, QueuePass, asks-foreign, all-at, QueueCalls, ProducesNone, ◌≡◌, inl, inr, if◌then◌else◌, ℕ, ◌<◌, ◌≤◌, true, arith, length, List, [], ◌∷◌, ◌++◌, Option, Some, None, Result, Ok, Err, IfOk, refl, sym, ap, subst, ◌∙◌, append-nil, slice_get_within, AllByRecursion, slice_get, AllocError, is_producer, Reply, Op, op_of, Command, EachOp, numbers_of, Entry, Refusal}
 use Rattle.stream_model.specs.History as told
 use Rattle.stream_script.specs.declared.parser.command.Command.TheVariants as command
 use Rattle.script_runs.specs.declared.reader.line.Line.{Line}
@@ -7,7 +7,7 @@ use Rattle.script_runs.specs.Told as script
 use Rattle.script_runs.proofs.Growing.{scripts-grow}
 use Rattle.script_runs.specs.declared.producer.answer.Answer.{Answer}
 use Rattle.script_runs.specs.declared.producer.answer.Answer.TheVariants as answer
-use Rattle.script_runs.specs.Telling.{AloneProduces, AsksEachOnce, AsksOnce, AsksUpTo, BeginsEmpty, HasTold, IsAsked, IsNewNumber, ProducesAlone, told_at, with_missed}
+use Rattle.script_runs.specs.Telling.{AloneProduces, AsksEachOnce, AsksOnce, AsksUpTo, BeginsEmpty, HasTold, IsNewNumber, ProducesAlone, TellsUnlessLimit, told_at, with_missed}
 use Rattle.script_runs.proofs.Asked.{before-at, op-here, op-there}
 use Rattle.script_runs.proofs.Placing.{set-at}
 use Rattle.script_runs.proofs.Replying.{before-same}
@@ -24,6 +24,33 @@ none-part at asked queue none =
 -- all was, up to where the line has come
 whole-part : (at : ℕ) (asked : Command) (queue : ℕ) (rest : List told.Entry) → queue ≤ at → IsToldOnce (script.op_at queue asked) rest → IsToldInPart at asked queue rest
 whole-part at asked queue rest within once = record { before = λ _. once; here = λ same. inr once; behind = λ past. absurd (omega (arith, within, past)) }
+
+-- ---- a line that was told as a whole
+
+with-part : (missed : List ℕ) (before : List told.Entry) (number : ℕ) (asked : Option Op) → (rest : List told.Entry) × (script.with_told missed before number asked ≡ before ++ rest) × IsToldOnce asked rest
+with-part missed before number None = ([], sym (append-nil before), refl)
+with-part missed before number (Some op) =
+    let r = script.told_reply missed before number op in
+    (record { op = op; reply = r } ∷ [], refl, (r, refl))
+
+pub told-part : (old new : List QueuePass) (asked : Command) (a : Answer)
+    → (AllByRecursion BeginsEmpty old → AloneProduces new → (missed : List ℕ) (lines : List Line) (number : ℕ) → IsNewNumber number missed lines
+    → HasTold missed lines old → HasTold (with_missed a number missed) (lines ++ record { number = number; command = asked } ∷ []) new)
+    → TellsInPart old asked new
+told-part old new asked a tells begins alone missed lines number fresh has = (
+  length new,
+  λ queue q at.
+      let now = with_missed a number missed in
+      let all = tells begins alone missed lines number fresh has in
+      let part = with-part now (script.told missed queue lines) number (script.op_at queue asked) in (
+        part.0,
+        all queue q at
+            ∙ scripts-grow.told now queue lines (record { number = number; command = asked })
+            ∙ ap (λ (before : List told.Entry). script.with_told now before number (script.op_at queue asked)) (before-same a number missed queue lines fresh.0)
+            ∙ part.1,
+        whole-part (length new) asked queue part.0 (omega (arith, slice_get_within new queue q at)) part.2,
+      ),
+)
 
 -- ---- a line that asks at one queue
 
@@ -79,14 +106,6 @@ step-part old new queue op result produces once begins alone missed lines number
 op-each : (each : EachOp) (queue : ℕ) → is_producer (op_of each) ≡ true → script.op_at queue (command.Each each) ≡ Some (op_of each)
 op-each each queue produces = ap (λ b. if b then Some (op_of each) else None) produces
 
-all-part : (old new : List QueuePass) (each : EachOp) → is_producer (op_of each) ≡ true → AllZip (IsAsked (op_of each)) old new → TellsInPart old (command.Each each) new
-all-part old new each produces all begins alone missed lines number fresh has = (
-  length new,
-  λ queue q at.
-      let beside = zip-at (IsAsked (op_of each)) old new queue q all at in
-      reply-part beside.0 q (op_of each) beside.2.reply (command.Each each) (length new) queue (script.told missed queue lines) (omega (arith, slice_get_within new queue q at)) (op-each each queue produces) produces (all-at ProducesAlone new queue q alone at) beside.2.calls (has queue beside.0 beside.1),
-)
-
 upto-part : (old new : List QueuePass) (each : EachOp) (result : Result Answer AllocError) → is_producer (op_of each) ≡ true → AsksUpTo old (op_of each) result new → TellsInPart old (command.Each each) new
 upto-part old new each result produces asks begins alone missed lines number fresh has = (
   asks.queue,
@@ -114,42 +133,16 @@ upto-part old new each result produces asks begins alone missed lines number fre
       ],
 )
 
-pub each-part : (old new : List QueuePass) (each : EachOp) (result : Result Answer AllocError) → is_producer (op_of each) ≡ true → AsksEachOnce old (op_of each) result new → TellsInPart old (command.Each each) new
-each-part old new each (Ok answer.Limit) produces once = upto-part old new each (Ok answer.Limit) produces once
-each-part old new each (Ok a) produces once = all-part old new each produces once
-each-part old new each (Err e) produces once = upto-part old new each (Err e) produces once
+pub each-part : (old new : List QueuePass) (each : EachOp) (result : Result Answer AllocError) → is_producer (op_of each) ≡ true → AsksEachOnce old (op_of each) result new
+    → IfOk result (λ a. TellsUnlessLimit old (command.Each each) a new) → TellsInPart old (command.Each each) new
+each-part old new each (Ok answer.Limit) produces once tells = upto-part old new each (Ok answer.Limit) produces once
+each-part old new each (Ok a) produces once tells = told-part old new (command.Each each) a (tells (λ limit. absurd (cc limit))).told
+each-part old new each (Err e) produces once tells = upto-part old new each (Err e) produces once
 
 -- ---- a line that asks for nothing
 
 pub silent-part : (passes : List QueuePass) (said : Command) → ((queue : ℕ) → script.op_at queue said ≡ None) → TellsInPart passes said passes
 silent-part passes said none begins alone missed lines number fresh has = (0, λ queue q at. ([], has queue q at ∙ sym (append-nil (script.told missed queue lines)), none-part 0 said queue (λ less. none queue)))
-
--- ---- a line that was told as a whole
-
-with-part : (missed : List ℕ) (before : List told.Entry) (number : ℕ) (asked : Option Op) → (rest : List told.Entry) × (script.with_told missed before number asked ≡ before ++ rest) × IsToldOnce asked rest
-with-part missed before number None = ([], sym (append-nil before), refl)
-with-part missed before number (Some op) =
-    let r = script.told_reply missed before number op in
-    (record { op = op; reply = r } ∷ [], refl, (r, refl))
-
-pub told-part : (old new : List QueuePass) (asked : Command) (a : Answer)
-    → (AllByRecursion BeginsEmpty old → AloneProduces new → (missed : List ℕ) (lines : List Line) (number : ℕ) → IsNewNumber number missed lines
-    → HasTold missed lines old → HasTold (with_missed a number missed) (lines ++ record { number = number; command = asked } ∷ []) new)
-    → TellsInPart old asked new
-told-part old new asked a tells begins alone missed lines number fresh has = (
-  length new,
-  λ queue q at.
-      let now = with_missed a number missed in
-      let all = tells begins alone missed lines number fresh has in
-      let part = with-part now (script.told missed queue lines) number (script.op_at queue asked) in (
-        part.0,
-        all queue q at
-            ∙ scripts-grow.told now queue lines (record { number = number; command = asked })
-            ∙ ap (λ (before : List told.Entry). script.with_told now before number (script.op_at queue asked)) (before-same a number missed queue lines fresh.0)
-            ∙ part.1,
-        whole-part (length new) asked queue part.0 (omega (arith, slice_get_within new queue q at)) part.2,
-      ),
-)
 
 -- ---- the lines that are left
 
