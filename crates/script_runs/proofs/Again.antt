@@ -12,7 +12,6 @@ use Rattle.stream_model.specs.declared.op.Start.TheVariants as start
 use Rattle.stream_script.specs.declared.parser.command.FaultKind.TheVariants as kind
 use Rattle.stream_script.specs.declared.parser.command.FaultKind.{FaultKind}
 use Rattle.stream_script.specs.declared.parser.command.Mode.TheVariants as mode
-use Rattle.stream_script.specs.declared.parser.command.Mode.{Mode}
 use Rattle.stream_script.specs.declared.parser.command.Parsed.TheVariants as parsed
 use Rattle.stream_script.specs.Lexer.{pieces_of}
 use Rattle.stream_script.specs.Pieces.{Piece, Word, Text, ends_word, IsPiece, spelling, AreSpaces, IsLineOf}
@@ -159,10 +158,8 @@ printed_from skipped true number read command e = refl
 printed_from true false number read command e = absurd cc
 printed_from false false number read command e = absurd cc
 
-read_printable : (queues : ℕ) (m : Mode) (number : ℕ) (line : List ℕ) (command : Command) → reading queues m number line ≡ parsed.Command command → list_all is_printable line ≡ true
-unfolding reading
-read_printable queues m number line command reads =
-    printed_from (is_skipped line) (list_all is_printable line) number (lexed m queues (pieces_of line)) command reads
-
 pub lines_are_printable : LinesArePrintable
-lines_are_printable queues queue o has = read_printable queues mode.Sim 1 (op_line queue o) (op_command queue o) (reads_again queues queue 1 o has)
+unfolding reading
+lines_are_printable queues queue o has =
+    let line = op_line queue o in
+    printed_from (is_skipped line) (list_all is_printable line) 1 (lexed mode.Sim queues (pieces_of line)) (op_command queue o) (reads_again queues queue 1 o has)
