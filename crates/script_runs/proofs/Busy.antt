@@ -33,25 +33,21 @@ keeps p (op.Due sub) e = refl
 keeps p op.Quiet e = refl
 keeps p o e = cc
 
--- so the calls behind it are legal where it wasn't made
+-- these calls are legal, and leave that
+abbrev Leaves : PlainPartition → List (Entry Op Reply) → PlainPartition → Type 0
+Leaves p es left = IsLegal replied after p es × (replay replied after p es ≡ left)
+
+-- where it wasn't made, the calls behind it are legal, and leave the same
 module _ (p : PlainPartition) (e : Entry Op Reply) (es : List (Entry Op Reply)) (told : e.reply ≡ replied p e.op) where
   same : true ≡ found_nothing e.op e.reply → after p e.op ≡ p
   same idle = keeps p e.op (ap (found_nothing e.op) (sym told) ∙ sym idle)
 
-  legal-with : (idle : Bool) → idle ≡ found_nothing e.op e.reply → IsLegal replied after (after p e.op) (busy es) → IsLegal replied after p (if not idle then e ∷ busy es else busy es)
-  legal-with true is legal = subst (λ (s : PlainPartition). IsLegal replied after s (busy es)) (same is) legal
-  legal-with false is legal = (told, legal)
+  leaves-with : (idle : Bool) → idle ≡ found_nothing e.op e.reply → (left : PlainPartition) → Leaves (after p e.op) (busy es) left → Leaves p (if not idle then e ∷ busy es else busy es) left
+  leaves-with true is left leaves = subst (λ (s : PlainPartition). Leaves s (busy es) left) (same is) leaves
+  leaves-with false is left leaves = ((told, leaves.0), leaves.1)
 
-  leaves-with : (idle : Bool) → idle ≡ found_nothing e.op e.reply → (left : PlainPartition) → replay replied after (after p e.op) (busy es) ≡ left → replay replied after p (if not idle then e ∷ busy es else busy es) ≡ left
-  leaves-with true is left leaves = subst (λ (s : PlainPartition). replay replied after s (busy es) ≡ left) (same is) leaves
-  leaves-with false is left leaves = leaves
-
-legal-busy : (p : PlainPartition) (history : List (Entry Op Reply)) → IsLegal replied after p history → IsLegal replied after p (busy history)
-legal-busy p [] legal = tt
-legal-busy p (e ∷ es) legal = legal-with p e es legal.0 (found_nothing e.op e.reply) refl (legal-busy (after p e.op) es legal.1)
-
-leaves-busy : (p : PlainPartition) (history : List (Entry Op Reply)) → IsLegal replied after p history → replay replied after p (busy history) ≡ replay replied after p history
-leaves-busy p [] legal = refl
+leaves-busy : (p : PlainPartition) (history : List (Entry Op Reply)) → IsLegal replied after p history → Leaves p (busy history) (replay replied after p history)
+leaves-busy p [] legal = (tt, refl)
 leaves-busy p (e ∷ es) legal = leaves-with p e es legal.0 (found_nothing e.op e.reply) refl (replay replied after (after p e.op) es) (leaves-busy (after p e.op) es legal.1)
 
 -- the texts of the others stand one behind another
@@ -65,8 +61,10 @@ texts-busy queue [] = refl
 texts-busy queue (e ∷ es) = texts-with queue e es (found_nothing e.op e.reply) (flat_map (entry_text calls.Busy queue) es) (texts-busy queue es)
 
 pub busy_calls_are_legal : BusyCallsAreLegal
-busy_calls_are_legal p history legal = record {
-  legal = legal-busy p history legal;
-  leaves = leaves-busy p history legal;
-  text = λ queue. ap (λ (t : List ℕ). heading queue ++ t) (texts-busy queue history);
-}
+busy_calls_are_legal p history legal =
+    let leaves = leaves-busy p history legal in
+    record {
+      legal = leaves.0;
+      leaves = leaves.1;
+      text = λ queue. ap (λ (t : List ℕ). heading queue ++ t) (texts-busy queue history);
+    }
