@@ -90,20 +90,13 @@ module _ (history : List Entry) where
 
 -- ---- so the producers' entries say the same
 
-abbrev AreKept : Entry → List Entry → (List Entry → Type 0) → Type 0
-AreKept e before P = P (told_entry e ∷ producers_entries before) → (is_producer e.op ≡ false → P (producers_entries before)) → P (producers_entries (e ∷ before))
-
-kept-cases : (P : List Entry → Type 0) (e : Entry) (before : List Entry) → AreKept e before P
-kept-cases P e before here others =
-    cond_both (is_producer e.op) (e ∷ filter (λ (e : Entry). is_producer e.op) before) (filter (λ (e : Entry). is_producer e.op) before) (λ (entries : List Entry). P (map told_entry entries))
-    (λ _. here) others
-
 all-kept : (history entries : List Entry) → said history (producers_entries entries) ≡ said history entries
 all-kept history [] = refl
 all-kept history (e ∷ before) =
     let sees = seen-by history before e.op e.reply in
-    kept-cases (λ (entries : List Entry). said history entries ≡ said history (e ∷ before)) e before
-    (ap (λ (old : Said). after history old e.op (told_of e.reply)) (all-kept history before) ∙ sees.0) (λ other. all-kept history before ∙ sym (sees.1 other))
+    let rest = filter (λ (e : Entry). is_producer e.op) before in
+    cond_both (is_producer e.op) (e ∷ rest) rest (λ (entries : List Entry). said history (map told_entry entries) ≡ said history (e ∷ before))
+    (λ _. ap (λ (old : Said). after history old e.op (told_of e.reply)) (all-kept history before) ∙ sees.0) (λ other. all-kept history before ∙ sym (sees.1 other))
 
 -- ---- and as it is told
 
