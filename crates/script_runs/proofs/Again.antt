@@ -73,10 +73,8 @@ texts_are (payload ∷ payloads) = (tt, texts_are payloads)
 -- ---- the pieces of an operation
 
 -- the operation's own pieces are words and texts, and its command has them
-abbrev AreOwn : ℕ → ℕ → Op → Type 0
-AreOwn queues queue o = AllByRecursion IsPiece (op_pieces queue o) × IsSpelled queues (op_pieces queue o) (op_command queue o)
-
-own_pieces : (queues queue : ℕ) (pieces : List Piece) (o : Op) → IsSpelled queues pieces (op_command queue o) → AreOwn queues queue o
+own_pieces : (queues queue : ℕ) (pieces : List Piece) (o : Op) → IsSpelled queues pieces (op_command queue o)
+    → AllByRecursion IsPiece (op_pieces queue o) × IsSpelled queues (op_pieces queue o) (op_command queue o)
 unfolding op_pieces
 own_pieces queues queue pieces (op.Publish stream payloads) w =
     ((fixed_word (codes "pub") refl refl, (stream_word stream w.0, texts_are payloads)), (w.0, w.1, w.2, refl))
