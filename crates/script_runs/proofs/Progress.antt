@@ -51,9 +51,6 @@ unused-told p unused alone =
 
 -- ---- numbers of lines
 
-abbrev AreBelow : ℕ → List Line → Type 0
-AreBelow last lines = AllByRecursion (λ (line : Line). line.number ≤ last) lines
-
 abbrev AreUpTo : ℕ → List ℕ → Type 0
 AreUpTo last numbers = AllByRecursion (λ (number : ℕ). number ≤ last) numbers
 
@@ -62,7 +59,7 @@ not-missed number last [] above below = refl
 not-missed number last (m ∷ missed) above below =
     ap (λ b. b || script.is_among number missed) (ne_eqb m number (λ same. omega (arith, above, below.0, same))) ∙ not-missed number last missed above below.1
 
-fresh-number : (number last : ℕ) (missed : List ℕ) (lines : List Line) → last < number → AreBelow last lines → AreUpTo last missed → IsNewNumber number missed lines
+fresh-number : (number last : ℕ) (missed : List ℕ) (lines : List Line) → last < number → AllByRecursion (λ (line : Line). line.number ≤ last) lines → AreUpTo last missed → IsNewNumber number missed lines
 fresh-number number last missed lines above below up =
     (All-weaken (λ (line : Line). line.number ≤ last) (λ (line : Line). (number == line.number) ≡ false) (λ line less. ne_eqb number line.number (λ same. omega (arith, above, less, same))) lines below, not-missed number last missed above up)
 
