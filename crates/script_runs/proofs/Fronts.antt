@@ -54,15 +54,6 @@ told-part old new asked a tells begins alone missed lines number fresh has = (
 
 -- ---- a line that asks at one queue
 
--- a call that was refused adds nothing
-refused-none : (p q : QueuePass) (op : Op) (refusal : Refusal) → QueueCalls p op (Err refusal) q → ProducesNone p q
-refused-none p q op refusal calls =
-    let found = calls.calls.call in
-    record {
-      on = record { only = calls.calls.only; more = found.0; seen = found.1; own = asks-foreign (numbers_of p) found.0 found.2 };
-      none = owns-foreign is_producer (numbers_of p) found.0 found.2;
-    }
-
 -- at a queue the lines before were told, and a part of this one
 abbrev ToldPart : ℕ → Command → ℕ → List told.Entry → QueuePass → Type 0
 ToldPart at said queue before q = (rest : List told.Entry) × (told_at q ≡ before ++ rest) × IsToldInPart at said queue rest
@@ -81,8 +72,14 @@ reply-part p q op r said at queue before within asks produces alone calls so_far
 call-part : (p q : QueuePass) (op : Op) (outcome : Result Reply Refusal) (said : Command) (at queue : ℕ) (before : List told.Entry) → queue ≡ at → script.op_at queue said ≡ Some op → is_producer op ≡ true → ProducesAlone q
     → QueueCalls p op outcome q → told_at p ≡ before → ToldPart at said queue before q
 call-part p q op (Ok r) said at queue before here asks produces alone calls so_far = reply-part p q op r said at queue before (omega (arith, here)) asks produces alone calls so_far
+-- a call that was refused adds nothing
 call-part p q op (Err refusal) said at queue before here asks produces alone calls so_far =
-    ([], none-told p q (refused-none p q op refusal calls) alone ∙ so_far ∙ sym (append-nil before), none-part at said queue (λ less. absurd (omega (arith, less, here))))
+    let found = calls.calls.call in
+    let none : ProducesNone p q = record {
+      on = record { only = calls.calls.only; more = found.0; seen = found.1; own = asks-foreign (numbers_of p) found.0 found.2 };
+      none = owns-foreign is_producer (numbers_of p) found.0 found.2;
+    } in
+    ([], none-told p q none alone ∙ so_far ∙ sym (append-nil before), none-part at said queue (λ less. absurd (omega (arith, less, here))))
 
 pub step-part : (old new : List QueuePass) (queue : ℕ) (op : Op) (result : Result Answer AllocError) → is_producer op ≡ true → AsksOnce old queue op result new → TellsInPart old (command.Step queue op) new
 step-part old new queue op result produces once begins alone missed lines number fresh has = (
