@@ -252,15 +252,12 @@ module _ (blocks : ℕ) (limits : Limits) (history : List Entry) (p : PlainParti
         | false ↦ λ closed. refl
       ]) refl
 
-  all-texts : quiet p ≡ IsQuiet → (queue : ℕ) → AllByRecursion (TellsText queue) (summaries_in_order p)
-  all-texts is_quiet queue =
-      All-in_order (TellsText queue) is_named_before (summaries_of p)
-      (All-mapped (TellsText queue) summary_of p.subs
-      (each-entry same_sub sub_equality (λ s r. TellsText queue (summary_of (s, r))) p.subs (steady-legal blocks limits history p stands).subs (record-text is_quiet queue)))
-
   pub report-told : quiet p ≡ IsQuiet → (queue : ℕ) → queue_report queue p ≡ told_report queue history
   report-told is_quiet queue =
-      flat_map-same (summary_text queue p) (told_text queue history) (summaries_in_order p) (all-texts is_quiet queue)
+      flat_map-same (summary_text queue p) (told_text queue history) (summaries_in_order p)
+      (All-in_order (TellsText queue) is_named_before (summaries_of p)
+      (All-mapped (TellsText queue) summary_of p.subs
+      (each-entry same_sub sub_equality (λ s r. TellsText queue (summary_of (s, r))) p.subs (steady-legal blocks limits history p stands).subs (record-text is_quiet queue))))
       ∙ ap (flat_map (told_text queue history)) (told-in-order is_quiet)
 
 -- the producers' entries tell the same report
