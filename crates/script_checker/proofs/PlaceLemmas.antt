@@ -1,5 +1,5 @@
 -- Where pieces begin and end.
-use Rattle.script_checker.proofs.Prelude.{◌≡◌, ◌≢◌, ℕ, ◌+◌, ◌-◌, ◌<◌, ◌≤◌, false, List, [], ◌∷◌, suc, length, slice_index, get_or, refl, sym, subst, ◌∙◌, inl, inr, arith, eq-eqb, cases_Bool, cases_lt, list_all, Mode}
+use Rattle.script_checker.proofs.Prelude.{◌≡◌, ◌≢◌, ℕ, ◌-◌, ◌<◌, ◌≤◌, false, List, [], ◌∷◌, suc, length, slice_index, get_or, refl, sym, subst, ◌∙◌, inl, inr, arith, eq-eqb, cases_Bool, cases_lt, list_all, Mode}
 use Rattle.stream_script.specs.declared.parser.command.Fault.{Fault}
 use Rattle.stream_script.specs.declared.parser.command.Parsed.TheVariants as parsed
 use Rattle.stream_script.specs.Pieces.{is_space}

@@ -1,5 +1,5 @@
 -- How far a script is done.
-use Rattle.script_runs.proofs.Prelude.{IsErrAnd, owns-foreign, QueuePass, asks-foreign, gone-refl, gone-trans, all-at, zip-refl, zip-trans, met-earlier, op-refl, IsUnused, turnstiles, ClusterView, is_fixed, HasGoneOn, Looks, LooksQuiet, OperatorGoesOn, ◌≡◌, ℕ, suc, ◌+◌, ◌<◌, ◌≤◌, inl, inr, true, false, ◌||◌, Contains, List, [], ◌∷◌, ◌++◌, Result, Ok, Err, IfErr, OnOk, length, get_or, refl, sym, ap, subst, ◌∙◌, arith, append_assoc, ◌==◌, ne_eqb, append-nil, AllByRecursion, AllZip, range_with_len, AllocError, All-push, All-weaken, is_producer, Op, op_of, Command, numbers_of, HistoryFull}
+use Rattle.script_runs.proofs.Prelude.{IsErrAnd, owns-foreign, QueuePass, asks-foreign, gone-refl, gone-trans, all-at, zip-refl, zip-trans, met-earlier, op-refl, IsUnused, turnstiles, ClusterView, is_fixed, HasGoneOn, Looks, LooksQuiet, OperatorGoesOn, ◌≡◌, ℕ, suc, ◌<◌, ◌≤◌, inl, inr, true, false, ◌||◌, Contains, List, [], ◌∷◌, ◌++◌, Result, Ok, Err, IfErr, OnOk, length, get_or, refl, sym, ap, subst, ◌∙◌, arith, append_assoc, ◌==◌, ne_eqb, append-nil, AllByRecursion, AllZip, range_with_len, AllocError, All-push, All-weaken, is_producer, Op, op_of, Command, numbers_of, HistoryFull}
 use Rattle.std.proofs.lemmas.List.FromFn.{get_or-range_with_len, length-range_with_len}
 use Rattle.std.proofs.lemmas.List.Sums.{fold-append}
 use Rattle.queue_balancer.specs.Balance.{HasNoDoubles}

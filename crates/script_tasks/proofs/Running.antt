@@ -1,5 +1,5 @@
 -- A script that was read and run, and what was written of it.
-use Rattle.script_tasks.proofs.Prelude.{◌≡◌, inl, inr, ℕ, ◌≤◌, List, [], ◌∷◌, ◌++◌, length, map, Option, Some, None, Ok, refl, sym, ap, subst, ◌∙◌, append-nil, length-map, Appends, Consumes, IsAtEnd, AllZip, flat_map, Reply, Op, asked_entries}
+use Rattle.script_tasks.proofs.Prelude.{◌≡◌, inl, inr, ℕ, List, [], ◌∷◌, ◌++◌, length, map, Option, Some, None, Ok, refl, ap, subst, ◌∙◌, append-nil, length-map, Appends, Consumes, IsAtEnd, AllZip, flat_map, Reply, Op, asked_entries}
 use Rattle.std.specs.Prelude.{IfSome}
 use Rattle.turnstile.specs.declared.asked.AskedHistory.{AskedHistory}
 use Rattle.turnstile.specs.declared.history.Entry.{Entry}

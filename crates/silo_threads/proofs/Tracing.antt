@@ -1,5 +1,5 @@
 -- The ends of turnstiles, one after another.
-use Rattle.silo_threads.proofs.Prelude.{BeganEmpty, after, replied, QueuePass, ◌≡◌, ◌≢◌, ℕ, zero, suc, ◌+◌, ◌≤◌, inl, inr, List, [], ◌∷◌, ◌++◌, length, map, Result, Ok, IfOk, refl, sym, subst, ◌∙◌, append-nil, AllPairs, AllocError, All-push, Reply, Op, PlainPartition, IsOf, numbers_of, FromAll, all_numbers, Own, Origin, Entry}
+use Rattle.silo_threads.proofs.Prelude.{BeganEmpty, after, replied, QueuePass, ◌≡◌, ◌≢◌, ℕ, zero, suc, ◌≤◌, inl, inr, List, [], ◌∷◌, ◌++◌, length, map, Result, Ok, IfOk, refl, sym, subst, ◌∙◌, append-nil, AllPairs, AllocError, All-push, Reply, Op, PlainPartition, IsOf, numbers_of, FromAll, all_numbers, Own, Origin, Entry}
 use Rattle.stream_laws.specs.Laws.{OneHistory}
 use Rattle.shared_partition.proofs.Partitions.{legal-leaves, legal-tells}
 use Rattle.silo_threads.specs.declared.ending.closing.Closing.{Closing}

@@ -1,4 +1,4 @@
-use Rattle.script_checker.proofs.Prelude.{◌≡◌, ℕ, ◌+◌, List, [], ◌∷◌, ◌++◌, Some, take, sym, ◌∙◌, ap, flat_map_more, take_more, string_bytes, StreamId}
+use Rattle.script_checker.proofs.Prelude.{◌≡◌, ℕ, ◌+◌, List, ◌++◌, Some, take, sym, ◌∙◌, ap, flat_map_more, take_more, string_bytes, StreamId}
 use Rattle.std.specs.List.{slice_get}
 use Rattle.std.specs.Map.Iter.{deref_pair}
 use Rattle.std.specs.Option.{option_map}

@@ -1,4 +1,4 @@
-use Rattle.script_tasks.proofs.Prelude.{append_assoc, refl, flat_map}
+use Rattle.script_tasks.proofs.Prelude.{append_assoc, flat_map}
 use Rattle.script_tasks.specs.Printing.{kept_line}
 use Rattle.script_tasks.proofs.summary.without_events.Goals as goal
 

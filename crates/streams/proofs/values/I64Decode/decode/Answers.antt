@@ -1,4 +1,4 @@
-use Rattle.streams.proofs.Prelude.{◌≡◌, ◌∙◌, ◌<◌, ◌^◌, Ok, Err, sym, ap, w64, SFits, of_z, to_z-of_z, rules}
+use Rattle.streams.proofs.Prelude.{◌≡◌, ◌∙◌, ◌<◌, ◌^◌, Ok, sym, ap, w64, SFits, of_z, to_z-of_z, rules}
 use Rattle.std.proofs.lemmas.Fmt.{parse-signed_decimal}
 use lib.IntN.{ℤ}
 use lib.Signed.{mag}

@@ -1,4 +1,4 @@
-use Rattle.streams.proofs.Prelude.{◌≡◌, ◌∙◌, Ok, Err, sym, refl, rules}
+use Rattle.streams.proofs.Prelude.{◌≡◌, ◌∙◌, sym, rules}
 use Rattle.std.proofs.lemmas.Fmt.{parse-decimal}
 use Rattle.streams.proofs.values.U64Decode.decode.Goals as goal
 
