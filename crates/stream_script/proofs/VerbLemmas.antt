@@ -51,37 +51,20 @@ verb_first word verb rest later =
       | inr h ↦ rw h later
     ]
 
-producer_verb-is : (word : List ℕ) → IsVerb word (producer_verb word)
-producer_verb-is word = verb_first word Pub _ (verb_first word Sub _ (verb_first word Unsub _ (verb_first word Rule None tt)))
-
-agent_verb-is : (word : List ℕ) → IsVerb word (agent_verb word)
-agent_verb-is word = verb_first word Pull _ (verb_first word Deliver _ (verb_first word Retry _ (verb_first word Ack _ (verb_first word Purge None tt))))
-
-worker_verb-is : (word : List ℕ) → IsVerb word (worker_verb word)
-worker_verb-is word = verb_first word Begin _ (verb_first word Commit _ (verb_first word Deactivate None tt))
-
-look_verb-is : (word : List ℕ) → IsVerb word (look_verb word)
-look_verb-is word = verb_first word Ready _ (verb_first word Due _ (verb_first word Quiet _ (verb_first word Report None tt)))
-
-operator_verb-is : (word : List ℕ) → IsVerb word (operator_verb word)
-operator_verb-is word = verb_first word Drain _ (verb_first word Move _ (verb_first word Up _ (verb_first word Down None tt)))
-
 either_verb : (word : List ℕ) (first other : Option Verb) → IsVerb word first → IsVerb word other → IsVerb word (or_else first other)
 either_verb word None other is is_other = is_other
 either_verb word (Some verb) other is is_other = is
 
 verb_of-is : (word : List ℕ) → IsVerb word (verb_of word)
 verb_of-is word =
-    either_verb word (agent_verb word) _ (agent_verb-is word)
-    (either_verb word (worker_verb word) _ (worker_verb-is word)
-    (either_verb word (look_verb word) _ (look_verb-is word)
-    (either_verb word (producer_verb word) (operator_verb word) (producer_verb-is word) (operator_verb-is word))))
-
-verb_found : (word : List ℕ) (verb : Verb) → verb_of word ≡ Some verb → word ≡ verb_word verb
-verb_found word verb e = subst (IsVerb word) e (verb_of-is word)
+    either_verb word (agent_verb word) _ (verb_first word Pull _ (verb_first word Deliver _ (verb_first word Retry _ (verb_first word Ack _ (verb_first word Purge None tt)))))
+    (either_verb word (worker_verb word) _ (verb_first word Begin _ (verb_first word Commit _ (verb_first word Deactivate None tt)))
+    (either_verb word (look_verb word) _ (verb_first word Ready _ (verb_first word Due _ (verb_first word Quiet _ (verb_first word Report None tt))))
+    (either_verb word (producer_verb word) (operator_verb word) (verb_first word Pub _ (verb_first word Sub _ (verb_first word Unsub _ (verb_first word Rule None tt))))
+    (verb_first word Drain _ (verb_first word Move _ (verb_first word Up _ (verb_first word Down None tt)))))))
 
 pub verb_in_front-found : (piece : Piece) (verb : Verb) → verb_in_front piece ≡ Ok verb → piece ≡ Word (verb_word verb)
-verb_in_front-found (Word word) verb e = ap Word (verb_found word verb (or_fault_ok kind.BadCommand (verb_of word) verb e))
+verb_in_front-found (Word word) verb e = ap Word (subst (IsVerb word) (or_fault_ok kind.BadCommand (verb_of word) verb e) (verb_of-is word))
 verb_in_front-found (Text bytes) verb e = absurd cc
 
 pub verb_of-word : (verb : Verb) → verb_of (verb_word verb) ≡ Some verb
