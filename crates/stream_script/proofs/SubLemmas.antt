@@ -74,22 +74,14 @@ pub name_found : (bytes : List ℕ) (sub : SubName) → name_field bytes ≡ Ok 
 unfolding name_field
 name_found bytes sub e = name_from-found bytes (split_once 64 bytes) sub refl e
 
-explicit_again : (n : ℕ) → 0 < n → n < 2 ^ 32 → explicit_field (decimal n) ≡ Ok (name.Explicit n)
-unfolding explicit_field
-explicit_again n some small = rw (number_again (2 ^ 32) n small (omega arith), lt-ltb 0 n some) refl
-
-implicit_again : (own_kind : List ℕ) (stream : StreamId) → IsName own_kind → IsStream stream → implicit_field (own_kind, stream_text stream) ≡ Ok (name.Implicit own_kind stream)
-unfolding implicit_field
-implicit_again own_kind stream is_kind is_stream = rw (name_of-again own_kind is_kind, stream_again stream is_stream) refl
-
 pub name_again : (sub : SubName) → IsSub sub → name_field (name_text sub) ≡ Ok sub
-unfolding name_field
+unfolding name_field explicit_field implicit_field
 name_again (name.Explicit n) is =
     let nowhere = split_once-nowhere 64 (decimal n) (decimal_all (λ byte. not (byte == 64)) (λ byte h. grind (arith, nat_tests)) n (omega (arith, is.1))) in
-    ap (name_from (decimal n)) nowhere ∙ explicit_again n is.0 is.1
+    rw (nowhere, number_again (2 ^ 32) n is.1 (omega (arith, is.1)), lt-ltb 0 n is.0) refl
 name_again (name.Implicit own_kind stream) is =
     let cut = split_once-front 64 own_kind (stream_text stream) (name_all (λ byte. not (byte == 64)) (λ byte h. grind (arith, nat_tests)) own_kind is.0) in
-    ap (name_from (name_text (name.Implicit own_kind stream))) cut ∙ implicit_again own_kind stream is.0 is.1
+    rw (cut, name_of-again own_kind is.0, stream_again stream is.1) refl
 
 -- what each byte of a name, and its separators, pass
 pub stream_text_all : (q : ℕ → Bool) → ((byte : ℕ) → is_name_byte byte ≡ true → q byte ≡ true) → q 47 ≡ true → (stream : StreamId) → IsStream stream → list_all q (stream_text stream) ≡ true
