@@ -3,6 +3,7 @@ use Rattle.stream_script.proofs.Prelude.{length-append, sym, ap, ◌∙◌, arit
 use Rattle.std.specs.Prelude.{◌≡◌, ◌++◌}
 use Rattle.std.proofs.lemmas.Iterator.Adapters.{option_map_id}
 use Rattle.std.proofs.lemmas.List.{append_assoc}
+use Rattle.std.proofs.lemmas.Option.{none-some}
 use Rattle.stream_script.specs.Pieces.{Piece, Word, Text, is_space, is_quote, is_backslash, ends_word, is_special, escaped, spelling, IsPiece, AreSpaces, ends_piece, IsLineOf}
 use Rattle.stream_script.specs.Lexer.{Place, Between, InWord, InText, InEscape, Closed, cut, pieces_of, begins_with}
 use Rattle.stream_script.proofs.PieceLemmas.{ahead, stops_at, cut-space, cut-in_word, cut-word_ended, cut-word_quoted, cut-in_text, cut-quote, cut-escaped, cut-closed, ended_stops}
@@ -125,9 +126,7 @@ found-word word byte bytes found pieces is e =
           let stops = ended_word (byte ∷ bytes) space in
           pieced (Word word) (byte ∷ bytes) pieces is space (found-between byte bytes found) (sym (cut-word_ended word (byte ∷ bytes) stops.0 stops.1) ∙ e)
       | inr no_space ↦ elim (cases_Bool (is_quote byte)) [
-        | inl quote ↦
-            let none : ◌≡◌ {A = Option (List Piece)} None (Some pieces) = sym (cut-word_quoted word (byte ∷ bytes) quote) ∙ e in
-            absurd cc
+        | inl quote ↦ absurd (none-some pieces (sym (cut-word_quoted word (byte ∷ bytes) quote) ∙ e))
         | inr no_quote ↦
             let inside : ends_word byte ≡ false = or_from (is_space byte) (is_quote byte) no_space no_quote in
             let all = list_all-both (λ b. not (ends_word b)) word (byte ∷ []) is.1 (rw inside refl) in
@@ -153,18 +152,14 @@ found-escape text byte bytes found pieces e =
       | inl special ↦
           let next = found (InText (text ++ byte ∷ [])) pieces tt (passed (cut (InText (text ++ byte ∷ [])) bytes) pieces (rw special at e)) in
           rw (append_assoc (escaped text) (92 ∷ []) (byte ∷ bytes)) (rw (escaped-more text byte (92 ∷ byte ∷ []) bytes (rw special refl)) at next)
-      | inr plain ↦
-          let none : ◌≡◌ {A = Option (List Piece)} None (Some pieces) = rw plain at e in
-          absurd cc
+      | inr plain ↦ absurd (none-some pieces (rw plain at e))
     ]
 
 found-closed : (text : List ℕ) (byte : ℕ) (bytes : List ℕ) → Found bytes → (pieces : List Piece) → cut (Closed text) (byte ∷ bytes) ≡ Some pieces → IsLineOf (spelling (Text text) ++ byte ∷ bytes) pieces
 found-closed text byte bytes found pieces e =
     elim (cases_Bool (is_space byte)) [
       | inl space ↦ pieced (Text text) (byte ∷ bytes) pieces tt space (found-between byte bytes found) (sym (cut-closed text (byte ∷ bytes) space) ∙ e)
-      | inr no_space ↦
-          let none : ◌≡◌ {A = Option (List Piece)} None (Some pieces) = rw no_space at e in
-          absurd cc
+      | inr no_space ↦ absurd (none-some pieces (rw no_space at e))
     ]
 
 cut_found : (bytes : List ℕ) (place : Place) (pieces : List Piece) → IsPlace place → cut place bytes ≡ Some pieces → IsLineOf (held place ++ bytes) pieces
