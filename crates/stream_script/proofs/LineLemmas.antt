@@ -50,17 +50,14 @@ cut-piece (Text text) rest is ends =
     ∙ (cut-text_whole [] text (34 ∷ rest) ∙ (option_map_id (cut (Closed text) rest) ∙ cut-closed text rest (ended_stops rest ends))))
 
 -- a line that is made of these pieces is cut into them
-pub line_cut : (line : List ℕ) (pieces : List Piece) → IsLineOf line pieces → cut Between line ≡ Some pieces
-line_cut line [] made = ap (cut Between) (sym (append-nil line)) ∙ cut-spaces line [] made
-line_cut line (piece ∷ pieces) made =
+pub pieces_of-line : (line : List ℕ) (pieces : List Piece) → IsLineOf line pieces → pieces_of line ≡ Some pieces
+unfolding pieces_of
+pieces_of-line line [] made = ap (cut Between) (sym (append-nil line)) ∙ cut-spaces line [] made
+pieces_of-line line (piece ∷ pieces) made =
     let spaces = made.0 in
     let rest = made.1 in
     ap (cut Between) (made.2 ∙ append_assoc spaces (spelling piece) rest)
-    ∙ (cut-spaces spaces (spelling piece ++ rest) made.3 ∙ (cut-piece piece rest made.4 made.5 ∙ ap (ahead piece) (line_cut rest pieces made.6)))
-
-pub pieces_of-line : (line : List ℕ) (pieces : List Piece) → IsLineOf line pieces → pieces_of line ≡ Some pieces
-unfolding pieces_of
-pieces_of-line line pieces made = line_cut line pieces made
+    ∙ (cut-spaces spaces (spelling piece ++ rest) made.3 ∙ (cut-piece piece rest made.4 made.5 ∙ ap (ahead piece) (pieces_of-line rest pieces made.6)))
 
 -- ---- a line is made of the pieces that the cutting gives
 

@@ -47,16 +47,12 @@ cut-in_word word byte bytes inside =
     let parts = or_parts (is_space byte) (is_quote byte) inside in
     rw (parts.0, parts.1) (option_map_id (cut (InWord (word ++ byte ∷ [])) bytes))
 
-ahead_again : (piece : Piece) (pieces : Option (List Piece)) → ahead piece pieces ≡ ahead piece (option_map (λ more. more) pieces)
-ahead_again piece None = refl
-ahead_again piece (Some pieces) = refl
-
 -- a word that a space or the end ends
 pub cut-word_ended : (word rest : List ℕ) → stops_at ends_word rest ≡ true → begins_with 34 rest ≡ false → cut (InWord word) rest ≡ ahead (Word word) (cut Between rest)
 cut-word_ended word [] stops unquoted = refl
 cut-word_ended word (byte ∷ rest) stops unquoted =
     elim (or_cases (is_space byte) (is_quote byte) stops) [
-      | inl h ↦ rw (eqb-true byte 32 h) (ahead_again (Word word) (cut Between rest))
+      | inl h ↦ rw (eqb-true byte 32 h) (ap (ahead (Word word)) (sym (option_map_id (cut Between rest))))
       | inr h ↦ cc
     ]
 
@@ -141,7 +137,7 @@ cut-text_stuck text (byte ∷ bytes) stops unquoted none =
 -- a text that a space or the end follows
 pub cut-closed : (text rest : List ℕ) → stops_at is_space rest ≡ true → cut (Closed text) rest ≡ ahead (Text text) (cut Between rest)
 cut-closed text [] stops = refl
-cut-closed text (byte ∷ rest) stops = rw (eqb-true byte 32 stops) (ahead_again (Text text) (cut Between rest))
+cut-closed text (byte ∷ rest) stops = rw (eqb-true byte 32 stops) (ap (ahead (Text text)) (sym (option_map_id (cut Between rest))))
 
 pub ended_stops : (rest : List ℕ) → ends_piece rest ≡ true → stops_at is_space rest ≡ true
 ended_stops [] h = refl
