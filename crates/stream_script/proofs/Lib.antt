@@ -1,7 +1,6 @@
 pub mod AgainLemmas
 pub mod BegunLemmas
 pub mod CutLemmas
-pub mod CuttingLaws
 pub mod EachLemmas
 pub mod FieldLemmas
 pub mod FoundLemmas

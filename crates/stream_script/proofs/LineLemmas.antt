@@ -4,6 +4,7 @@ use Rattle.std.specs.Prelude.{◌≡◌, ◌++◌}
 use Rattle.std.proofs.lemmas.Iterator.Adapters.{option_map_id}
 use Rattle.std.proofs.lemmas.List.{append_assoc}
 use Rattle.std.proofs.lemmas.Option.{none-some}
+use Rattle.stream_script.specs.Cutting.{HasNoPieces}
 use Rattle.stream_script.specs.Pieces.{Piece, Word, Text, is_space, is_quote, is_backslash, ends_word, is_special, escaped, spelling, IsPiece, AreSpaces, ends_piece, IsLineOf}
 use Rattle.stream_script.specs.Lexer.{Place, Between, InWord, InText, InEscape, Closed, cut, pieces_of, begins_with}
 use Rattle.stream_script.proofs.PieceLemmas.{ahead, stops_at, cut-space, cut-in_word, cut-word_ended, cut-word_quoted, cut-in_text, cut-quote, cut-escaped, cut-closed, ended_stops}
@@ -174,3 +175,8 @@ cut_found (byte ∷ bytes) (Closed text) pieces is e = found-closed text byte by
 pub line-pieces_of : (line : List ℕ) (pieces : List Piece) → pieces_of line ≡ Some pieces → IsLineOf line pieces
 unfolding pieces_of
 line-pieces_of line pieces e = cut_found line Between pieces tt e
+
+-- a line of which there are no pieces is cut into none
+pub none_found : (line : List ℕ) (found : Option (List Piece)) → pieces_of line ≡ found → HasNoPieces line → found ≡ None
+none_found line None is none = refl
+none_found line (Some pieces) is none = absurd (none pieces (line-pieces_of line pieces is))

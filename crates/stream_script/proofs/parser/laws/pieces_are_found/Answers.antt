@@ -1,8 +1,11 @@
-use Rattle.stream_script.proofs.CuttingLaws.{finds_pieces, finds_none}
+use Rattle.stream_script.proofs.Prelude.{◌∙◌, sym, refl}
+use Rattle.std.proofs.lemmas.Option.{none-some}
+use Rattle.stream_script.specs.Lexer.{pieces_of}
+use Rattle.stream_script.proofs.LineLemmas.{none_found, pieces_of-line, line-pieces_of}
 use Rattle.stream_script.proofs.parser.laws.pieces_are_found.Goals as goal
 
 pub returns-clause-pieces : goal.returns-clause-pieces
-returns-clause-pieces c = finds_pieces
+returns-clause-pieces c line pieces = (line-pieces_of line pieces, pieces_of-line line pieces)
 
 pub returns-clause-none : goal.returns-clause-none
-returns-clause-none c = finds_none
+returns-clause-none c line = (λ is pieces made. none-some pieces (sym is ∙ pieces_of-line line pieces made), none_found line (pieces_of line) refl)
