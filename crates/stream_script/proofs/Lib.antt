@@ -4,7 +4,6 @@ pub mod CutLemmas
 pub mod EachLemmas
 pub mod FieldLemmas
 pub mod FoundLemmas
-pub mod Known
 pub mod LineLemmas
 pub mod PieceLemmas
 pub mod PrintableLemmas
