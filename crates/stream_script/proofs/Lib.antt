@@ -15,6 +15,5 @@ pub mod StandLemmas
 pub mod SubLemmas
 pub mod Texts
 pub mod VerbLemmas
-pub mod Whole
 pub mod WithinLemmas
 pub mod Prelude
