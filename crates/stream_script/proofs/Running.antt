@@ -1,6 +1,6 @@
 -- Lines done one after another: what was written, and then what the rest writes, is what all write.
-use Rattle.stream_script.proofs.Prelude.{◌≡◌, suc, ◌+◌, ◌++◌, Result, sym, ap, ◌∙◌, append_assoc, add-one, Appends-nil, Appends-trans, Appends, PlainPartition}
-use Rattle.std.proofs.Common.{ℕ, List, [], ◌∷◌, Option, None, Some, Ok, refl}
+use Rattle.stream_script.proofs.Prelude.{◌≡◌, suc, ◌+◌, ◌++◌, sym, ap, ◌∙◌, append_assoc, add-one, Appends-trans, Appends, PlainPartition}
+use Rattle.std.proofs.Common.{ℕ, List, ◌∷◌, Option, None, Some, Ok}
 use Rattle.stream_script.specs.declared.parser.command.Fault.{Fault}
 use Rattle.stream_script.specs.declared.simulate.SimConfig.{SimConfig}
 use Rattle.stream_script.specs.Simulation.{Outcome, with_text, and_then, run_line, run_lines, RunsLine}
@@ -11,9 +11,6 @@ pub record Reaches (old new : Option (List ℕ)) (whole rest : Outcome) : Type 0
   pub text : List ℕ
   pub appended : Appends old new text
   pub joined : whole ≡ with_text text rest
-
-pub starts : (a : Option (List ℕ)) (whole : Outcome) → Reaches a a whole whole
-starts a whole = record { text = []; appended = Appends-nil a; joined = refl }
 
 with_texts : (front text : List ℕ) (rest : Outcome) → with_text front (with_text text rest) ≡ with_text (front ++ text) rest
 with_texts front text rest = ap (λ bytes. record { text = bytes; fault = rest.fault }) (sym (append_assoc front text rest.text))
@@ -34,14 +31,11 @@ stops a b c whole rest next text so_far here more =
     let whole_text : whole.text ≡ so_far.text ++ rest.text = ap (λ outcome. outcome.text) so_far.joined in
     (so_far.text ++ more.0, left, whole_text ∙ ap (λ bytes. so_far.text ++ bytes) rest_text ∙ sym (append_assoc so_far.text more.0 left), Appends-trans a b c so_far.text more.0 so_far.appended more.3)
 
-no_fault : (line : Result (List PlainPartition × List ℕ) Fault) (done : List PlainPartition × List ℕ) (fault : Option Fault) → fault ≡ None → RunsLine line done (Ok fault) → line ≡ Ok done
-no_fault line done None none ran = ran
-no_fault line done (Some fault) none ran = absurd cc
-
 -- the next line is done
 pub line_done : (config own : SimConfig) (number : ℕ) (partitions after : List PlainPartition) (left more : List (List ℕ)) (line text : List ℕ) (fault : Option Fault)
     → left ≡ line ∷ more → own ≡ config → fault ≡ None → RunsLine (run_line own number partitions line) (after, text) (Ok fault)
     → run_lines config number partitions left ≡ with_text text (run_lines config (number + 1) after more)
-line_done config own number partitions after left more line text fault next same none ran =
-    let done : run_line config number partitions line ≡ Ok (after, text) = ap (λ c. run_line c number partitions line) (sym same) ∙ no_fault (run_line own number partitions line) (after, text) fault none ran in
+line_done config own number partitions after left more line text (Some fault) next same none ran = absurd cc
+line_done config own number partitions after left more line text None next same none ran =
+    let done : run_line config number partitions line ≡ Ok (after, text) = ap (λ c. run_line c number partitions line) (sym same) ∙ ran in
     rw add-one (ap (run_lines config number partitions) next ∙ ap (and_then (λ a. run_lines config (suc number) a more)) done)
