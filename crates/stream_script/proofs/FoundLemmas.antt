@@ -1,5 +1,5 @@
 -- What is read as a command is written so.
-use Rattle.stream_script.proofs.Prelude.{sym, ap, ◌∙◌, subst, arith, inl, inr, list_all, ℕ, ◌^◌, Bool, true, false, List, [], ◌∷◌, Option, Some, None, Ok, IfOk, cond, refl, AllocError, is_printable, ◌>>=◌, same_name, token_text}
+use Rattle.stream_script.proofs.Prelude.{sym, ap, ◌∙◌, subst, arith, inl, inr, list_all, AllByRecursion, ℕ, ◌^◌, Bool, true, false, List, [], ◌∷◌, Option, Some, None, Ok, IfOk, cond, refl, AllocError, IsPayload, is_printable, ◌>>=◌, same_name, token_text}
 use Rattle.std.specs.Prelude.{◌≡◌, map, Result, Err, codes}
 use Rattle.std.specs.Cmp.Lexicographic.{same_text}
 use Rattle.stream_ident.specs.declared.limits.TheConstants.{MOST_SILOS}
@@ -14,19 +14,63 @@ use Rattle.stream_script.specs.declared.parser.command.Parsed.{Parsed}
 use Rattle.stream_script.specs.declared.parser.command.Parsed.TheVariants as parsed
 use Rattle.stream_script.specs.declared.parser.command.Verb.{Verb}
 use Rattle.stream_script.specs.declared.parser.command.Verb.TheVariants.{Pub, Sub, Unsub, Rule, Pull, Deliver, Retry, Ack, Purge, Move, Begin, Commit, Deactivate, Ready, Due, Quiet, Drain, Report, Up, Down}
-use Rattle.stream_script.specs.Fields.{guard}
-use Rattle.stream_script.specs.Forms.{word_of, text_of, words_of, texts_of, queue_of, pub_fields, pub_command, sub_latest, sub_from, unsub_words, rule_words, pull_fields, deliver_words, retry_words, ack_fields, purge_fields, move_words, begin_one, begin_most, commit_fields, deactivate_words, ready_first, ready_after, due_first, due_after, up_words, down_words, words_command, verb_command}
+use Rattle.stream_script.specs.Fields.{guard, payload_field}
+use Rattle.stream_script.specs.Forms.{read_all, word_of, text_of, words_of, texts_of, payloads_of, queue_of, pub_fields, pub_command, sub_latest, sub_from, unsub_words, rule_words, pull_fields, deliver_words, retry_words, ack_fields, purge_fields, move_words, begin_one, begin_most, commit_fields, deactivate_words, ready_first, ready_after, due_first, due_after, up_words, down_words, words_command, verb_command}
 use Rattle.stream_script.specs.Grammar.{IsSpelled, MayStand, Reads}
 use Rattle.stream_script.specs.Lexer.{pieces_of}
 use Rattle.stream_script.specs.Pieces.{Piece, Word, Text}
 use Rattle.stream_script.specs.Reading.{command_of, lexed, is_skipped, parsed_of, reading}
 use Rattle.stream_script.specs.Spelling.{stream_text}
 use Rattle.stream_script.specs.Verbs.{may_stand, not_here, verb_in_front}
-use Rattle.stream_script.proofs.FieldLemmas.{bind_ok, done, ok_is, guard_ok, number_found, queue_found, stream_found, grain_found, token_found, bare_name_found}
+use Rattle.stream_script.proofs.FieldLemmas.{bind_ok, done, ok_is, guard_ok, number_found, queue_found, stream_found, grain_found, token_found, bare_name_found, payload_found}
 use Rattle.stream_script.proofs.LineLemmas.{line-pieces_of}
-use Rattle.stream_script.proofs.StandLemmas.{Stands, word_found, text_found, read_all-found, payloads_found, read_ok}
 use Rattle.stream_script.proofs.SubLemmas.{sub_found, own_sub_found}
-use Rattle.stream_script.proofs.VerbLemmas.{verb_word, verb_in_front-found, verb-may_stand}
+use Rattle.stream_script.proofs.VerbLemmas.{verb_word, verb_for, verb_in_front-found, verb-may_stand}
+
+-- a command of this verb, whose word stands in front of these pieces
+abbrev Stands : ℕ → Verb → List Piece → Command → Type 0
+Stands queues verb pieces command = (verb_for command ≡ verb) × IsSpelled queues (Word (verb_word verb) ∷ pieces) command
+
+-- ---- words and texts
+
+word_found : (piece : Piece) (word : List ℕ) → word_of piece ≡ Ok word → piece ≡ Word word
+word_found (Word bytes) word e = ap Word (ok_is bytes word e)
+word_found (Text bytes) word e = absurd cc
+
+text_found : (piece : Piece) (text : List ℕ) → text_of piece ≡ Ok text → piece ≡ Text text
+text_found (Word bytes) text e = absurd cc
+text_found (Text bytes) text e = ap Text (ok_is bytes text e)
+
+-- each element that is read is what it is read as, made again
+read_all-found : {A B : Type 0} (read : A → Result B FaultKind) (make : B → A) → ((x : A) (y : B) → read x ≡ Ok y → x ≡ make y) → (xs : List A) (ys : List B) → read_all read xs ≡ Ok ys → xs ≡ map make ys
+read_all-found read make found [] ys e = ap (map make) (ok_is [] ys e)
+read_all-found read make found (x ∷ xs) ys e =
+    let a = bind_ok (read x) (λ y. read_all read xs >>= λ more. Ok (y ∷ more)) ys e in
+    let b = bind_ok (read_all read xs) (λ more. Ok (a.0 ∷ more)) ys a.2 in
+    let first = found x a.0 a.1 in
+    let others = read_all-found read make found xs b.0 b.1 in
+    ap (λ y. y ∷ xs) first ∙ (ap (λ more. make a.0 ∷ more) others ∙ ap (map make) (ok_is (a.0 ∷ b.0) ys b.2))
+
+payloads_found : (texts payloads : List (List ℕ)) → payloads_of texts ≡ Ok payloads → (texts ≡ payloads) × AllByRecursion IsPayload payloads
+payloads_found [] payloads e =
+    let are : [] ≡ payloads = ok_is [] payloads e in
+    (are, subst (AllByRecursion IsPayload) are tt)
+payloads_found (text ∷ texts) payloads e =
+    let a = bind_ok (payload_field text) (λ payload. payloads_of texts >>= λ more. Ok (payload ∷ more)) payloads e in
+    let b = bind_ok (payloads_of texts) (λ more. Ok (a.0 ∷ more)) payloads a.2 in
+    let first = payload_found text a.0 a.1 in
+    let others = payloads_found texts b.0 b.1 in
+    let are : a.0 ∷ b.0 ≡ payloads = ok_is (a.0 ∷ b.0) payloads b.2 in
+    (ap (λ (x : List ℕ). x ∷ texts) first.0 ∙ (ap (λ (more : List (List ℕ)). a.0 ∷ more) others.0 ∙ are), subst (AllByRecursion IsPayload) are (first.1, others.1))
+
+-- a field that was read, what is known of it, and what is read behind it
+read_ok : {X A : Type 0} {read : X → Result A FaultKind} {Is : X → A → Type 0} → ((field : X) (x : A) → read field ≡ Ok x → Is field x)
+    → (field : X) (rest : A → Result Command FaultKind) (command : Command) → (read field >>= rest) ≡ Ok command → (x : A) × Is field x × (rest x ≡ Ok command)
+read_ok {read = read} found field rest command e =
+    let a = bind_ok (read field) rest command e in
+    (a.0, found field a.0 a.1, a.2)
+
+-- ---- commands
 
 pub_found : (queues : ℕ) (pieces : List Piece) (command : Command) → pub_command queues pieces ≡ Ok command → Stands queues Pub pieces command
 unfolding pub_fields

@@ -11,7 +11,6 @@ pub mod PublishingLemmas
 pub mod ReadLemmas
 pub mod ReportLemmas
 pub mod Running
-pub mod StandLemmas
 pub mod SubLemmas
 pub mod Texts
 pub mod VerbLemmas
