@@ -1,8 +1,9 @@
--- What is read as a command is written so.
-use Rattle.stream_script.proofs.Prelude.{sym, ap, ◌∙◌, subst, arith, inl, inr, list_all, AllByRecursion, ℕ, ◌^◌, Bool, true, false, List, [], ◌∷◌, Option, Some, None, Ok, IfOk, cond, refl, AllocError, IsPayload, is_printable, ◌>>=◌, same_name, token_text}
+-- What is read as a command is written so, and is of a queue that there is.
+use Rattle.stream_script.proofs.Prelude.{◌%◌, ◌<◌, ◌≤◌, sym, ap, ◌∙◌, subst, arith, inl, inr, list_all, AllByRecursion, ℕ, ◌^◌, Bool, true, false, List, [], ◌∷◌, Option, Some, None, Ok, IfOk, cond, refl, AllocError, IsPayload, is_printable, ◌>>=◌, same_name, token_text, StreamId}
 use Rattle.std.specs.Prelude.{◌≡◌, map, Result, Err, codes}
 use Rattle.std.specs.Cmp.Lexicographic.{same_text}
 use Rattle.stream_ident.specs.declared.limits.TheConstants.{MOST_SILOS}
+use Rattle.stream_model.specs.declared.op.Op.{Op}
 use Rattle.stream_model.specs.declared.op.Op.TheVariants as op
 use Rattle.stream_model.specs.declared.op.Start.TheVariants as start
 use Rattle.stream_script.specs.declared.parser.command.Command.{Command}
@@ -16,10 +17,10 @@ use Rattle.stream_script.specs.declared.parser.command.Verb.{Verb}
 use Rattle.stream_script.specs.declared.parser.command.Verb.TheVariants.{Pub, Sub, Unsub, Rule, Pull, Deliver, Retry, Ack, Purge, Move, Begin, Commit, Deactivate, Ready, Due, Quiet, Drain, Report, Up, Down}
 use Rattle.stream_script.specs.Fields.{guard, payload_field}
 use Rattle.stream_script.specs.Forms.{read_all, word_of, text_of, words_of, texts_of, payloads_of, queue_of, pub_fields, pub_command, sub_latest, sub_from, unsub_words, rule_words, pull_fields, deliver_words, retry_words, ack_fields, purge_fields, move_words, begin_one, begin_most, commit_fields, deactivate_words, ready_first, ready_after, due_first, due_after, up_words, down_words, words_command, verb_command}
-use Rattle.stream_script.specs.Grammar.{IsSpelled, MayStand, Reads}
+use Rattle.stream_script.specs.Grammar.{IsSpelled, IsWritten, MayStand, Reads}
 use Rattle.stream_script.specs.Lexer.{pieces_of}
 use Rattle.stream_script.specs.Pieces.{Piece, Word, Text}
-use Rattle.stream_script.specs.Reading.{command_of, lexed, is_skipped, parsed_of, reading}
+use Rattle.stream_script.specs.Reading.{command_of, lexed, is_skipped, parsed_of, reading, IsWithin}
 use Rattle.stream_script.specs.Spelling.{stream_text}
 use Rattle.stream_script.specs.Verbs.{may_stand, not_here, verb_in_front}
 use Rattle.stream_script.proofs.FieldLemmas.{bind_ok, done, ok_is, guard_ok, number_found, queue_found, stream_found, grain_found, token_found, bare_name_found, payload_found}
@@ -227,3 +228,30 @@ found_from queues m line bytes (Ok p) exact command e =
     let is : p ≡ parsed.Command command = cc in
     reading-found queues m line bytes command (sym exact ∙ is)
 found_from queues m line bytes (Err failed) exact command e = absurd cc
+
+-- ---- a command is of a queue that there is
+
+rest-below : (n queues : ℕ) → 1 ≤ queues → n % queues < queues
+rest-below n queues some = omega arith
+
+-- the queue of a stream is one of the queues
+queue_of-below : (stream : StreamId) (queues queue : ℕ) → 1 ≤ queues → queue ≡ queue_of stream queues → queue < queues
+queue_of-below stream queues queue some is =
+    let below : queue_of stream queues < queues = rest-below _ queues some in
+    rw is below
+
+written-within : (queues : ℕ) (pieces : List Piece) (queue : ℕ) (o : Op) → 1 ≤ queues → IsWritten queues pieces queue o → queue < queues
+written-within queues pieces queue (op.Publish stream payloads) some written = queue_of-below stream queues queue some written.2
+written-within queues pieces queue (op.Subscribe stream grain start) some written = queue_of-below stream queues queue some written.2
+written-within queues pieces queue (op.AddRule own_kind namespace) some written = absurd written
+written-within queues pieces queue (op.Ready None) some written = written.0.0
+written-within queues pieces queue (op.Due None) some written = written.0.0
+written-within queues pieces queue op.Quiet some written = absurd written
+written-within queues pieces queue _ some written = written.0.0
+
+-- what is read, where each command that is read is written so
+pub within-found : (mode : Mode) (queues : ℕ) (line : List ℕ) (result : Result Parsed AllocError) → 1 ≤ queues
+    → ((command : Command) → result ≡ Ok (parsed.Command command) → Reads mode queues line command) → IfOk result (IsWithin queues)
+within-found mode queues line (Ok (parsed.Command (Step queue o))) some found =
+    let reads = found (Step queue o) refl in written-within queues reads.1 queue o some reads.3
+within-found mode queues line _ some found = tt

@@ -14,5 +14,4 @@ pub mod Running
 pub mod SubLemmas
 pub mod Texts
 pub mod VerbLemmas
-pub mod WithinLemmas
 pub mod Prelude

@@ -1,6 +1,5 @@
 use Rattle.stream_script.proofs.AgainLemmas.{only_from}
-use Rattle.stream_script.proofs.FoundLemmas.{found_from}
-use Rattle.stream_script.proofs.WithinLemmas.{within-found}
+use Rattle.stream_script.proofs.FoundLemmas.{found_from, within-found}
 use Rattle.stream_script.proofs.parser.parse.parse_line.Goals as goal
 
 pub returns-clause-within : goal.returns-clause-within

@@ -7,8 +7,7 @@ use Rattle.stream_script.specs.declared.parser.command.Mode.TheVariants as mode
 use Rattle.stream_script.specs.declared.parser.command.Parsed.{Parsed}
 use Rattle.stream_script.specs.declared.parser.command.Parsed.TheVariants as parsed
 use Rattle.stream_script.specs.Reading.{parsed_as, reading}
-use Rattle.stream_script.proofs.FoundLemmas.{found_from}
-use Rattle.stream_script.proofs.WithinLemmas.{within-found}
+use Rattle.stream_script.proofs.FoundLemmas.{found_from, within-found}
 use Rattle.stream_script.proofs.simulate.Simulator.run_command.Goals as goal
 
 pub step-requires : goal.step-requires
