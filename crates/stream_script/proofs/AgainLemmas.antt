@@ -1,5 +1,5 @@
 -- What is written as a command is read as it.
-use Rattle.stream_script.proofs.Prelude.{ap, ◌∙◌, subst, arith, inl, inr, list_all, AllByRecursion, ℕ, ◌^◌, true, false, List, [], ◌∷◌, None, Some, Ok, IfOk, refl, AllocError, IsPayload, is_printable, ◌>>=◌}
+use Rattle.stream_script.proofs.Prelude.{ap, ◌∙◌, subst, arith, inl, inr, and_parts, and_left, and_right, eqb-true, list_all, AllByRecursion, ℕ, ◌^◌, true, false, List, [], ◌∷◌, ◌++◌, ◌==◌, append_assoc, None, Some, Ok, IfOk, refl, AllocError, IsPayload, is_printable, ◌>>=◌}
 use Rattle.std.specs.Prelude.{◌≡◌, map, Result, Err}
 use Rattle.stream_ident.specs.declared.limits.TheConstants.{MOST_SILOS}
 use Rattle.stream_model.specs.declared.op.Op.TheVariants as op
@@ -11,13 +11,14 @@ use Rattle.stream_script.specs.declared.parser.command.FaultKind.TheVariants as 
 use Rattle.stream_script.specs.declared.parser.command.Mode.{Mode}
 use Rattle.stream_script.specs.declared.parser.command.Parsed.{Parsed}
 use Rattle.stream_script.specs.declared.parser.command.Parsed.TheVariants as parsed
+use Rattle.stream_script.specs.declared.parser.command.Verb.{Verb}
+use Rattle.stream_script.specs.declared.parser.command.Verb.TheVariants.{Pub}
 use Rattle.stream_script.specs.Fields.{or_fault, guard}
 use Rattle.stream_script.specs.Forms.{texts_of, payloads_of, pub_fields, sub_latest, sub_from, unsub_words, rule_words, pull_fields, deliver_words, retry_words, ack_fields, purge_fields, move_words, begin_one, begin_most, commit_fields, deactivate_words, ready_first, ready_after, due_first, due_after, up_words, down_words, verb_command}
 use Rattle.stream_script.specs.Grammar.{IsSpelled, Reads}
-use Rattle.stream_script.specs.Pieces.{Piece, Word, Text, IsLineOf}
+use Rattle.stream_script.specs.Pieces.{Piece, Word, Text, is_space, AreSpaces, IsLineOf}
 use Rattle.stream_script.specs.Reading.{command_of, is_skipped, reading}
 use Rattle.stream_script.specs.Verbs.{may_stand, not_here}
-use Rattle.stream_script.proofs.BegunLemmas.{verb_line_begun}
 use Rattle.stream_script.proofs.FieldLemmas.{number_again, queue_again, stream_again, grain_again, token_again, payload_again, bare_name_again}
 use Rattle.stream_script.proofs.LineLemmas.{pieces_of-line}
 use Rattle.stream_script.proofs.PrintableLemmas.{IsPrintable, line_printable, name_printable, number_printable, queue_printable, stream_printable, grain_printable, token_printable, sub_printable, payloads_printable, word_printable}
@@ -118,6 +119,28 @@ spelled_again queues pieces Drain w = ([], w, tt, refl)
 spelled_again queues pieces Report w = ([], w, tt, refl)
 spelled_again queues pieces (Up silo) w = (_, w.1, (number_printable silo (omega (arith, w.0)), tt), rw (number_again MOST_SILOS silo w.0 (omega (arith, w.0))) refl)
 spelled_again queues pieces (Down silo) w = (_, w.1, (number_printable silo (omega (arith, w.0)), tt), rw (number_again MOST_SILOS silo w.0 (omega (arith, w.0))) refl)
+
+-- ---- a line that begins with a verb is not skipped
+
+not_spaces : (spaces : List ℕ) (byte : ℕ) (bytes : List ℕ) → is_space byte ≡ false → list_all is_space (spaces ++ byte ∷ bytes) ≡ false
+not_spaces [] byte bytes no_space = and_left (is_space byte) (list_all is_space bytes) no_space
+not_spaces (space ∷ spaces) byte bytes no_space =
+    and_right (is_space space) (list_all is_space (spaces ++ byte ∷ bytes)) (not_spaces spaces byte bytes no_space)
+
+not_skipped : (spaces : List ℕ) (byte : ℕ) (bytes : List ℕ) → AreSpaces spaces → is_space byte ≡ false → (byte == 35) ≡ false → is_skipped (spaces ++ byte ∷ bytes) ≡ false
+not_skipped [] byte bytes are no_space no_mark = rw (no_space, no_mark) refl
+not_skipped (space ∷ spaces) byte bytes are no_space no_mark =
+    rw (eqb-true space 32 (and_parts (is_space space) (list_all is_space spaces) are).0, not_spaces spaces byte bytes no_space) refl
+
+line_begun : (line : List ℕ) (byte : ℕ) (bytes : List ℕ) (pieces : List Piece) → is_space byte ≡ false → (byte == 35) ≡ false → IsLineOf line (Word (byte ∷ bytes) ∷ pieces) → is_skipped line ≡ false
+line_begun line byte bytes pieces no_space no_mark made =
+    rw (made.2, append_assoc made.0 (byte ∷ bytes) made.1) (not_skipped made.0 byte (bytes ++ made.1) made.3 no_space no_mark)
+
+verb_line_begun : (verb : Verb) (line : List ℕ) (pieces : List Piece) → IsLineOf line (Word (verb_word verb) ∷ pieces) → is_skipped line ≡ false
+verb_line_begun Pub line pieces made = line_begun line _ _ pieces refl refl made
+verb_line_begun _ line pieces made = line_begun line _ _ pieces refl refl made
+
+-- ---- whole lines
 
 command_of-again : (m : Mode) (queues : ℕ) (pieces : List Piece) (command : Command) → may_stand m (verb_for command) ≡ true → IsAgain queues pieces command → command_of m queues pieces ≡ Ok command
 command_of-again m queues pieces command may a =

@@ -1,5 +1,4 @@
 pub mod AgainLemmas
-pub mod BegunLemmas
 pub mod CutLemmas
 pub mod EachLemmas
 pub mod FieldLemmas
