@@ -1,7 +1,10 @@
--- What is written as a command is read as it.
-use Rattle.stream_script.proofs.Prelude.{ap, ◌∙◌, subst, arith, inl, inr, and_parts, and_left, and_right, eqb-true, list_all, AllByRecursion, ℕ, ◌^◌, true, false, List, [], ◌∷◌, ◌++◌, ◌==◌, append_assoc, None, Some, Ok, IfOk, refl, AllocError, IsPayload, is_printable, ◌>>=◌}
-use Rattle.std.specs.Prelude.{◌≡◌, map, Result, Err}
+-- What is written as a command is read as it, and each of its bytes is printable.
+use Rattle.stream_script.proofs.Prelude.{ap, ◌∙◌, subst, arith, inl, inr, cases_Bool, and_from, and_parts, and_left, and_right, eqb-true, nat_tests, decimal, list_all, AllByRecursion, ℕ, ◌^◌, true, false, List, [], ◌∷◌, ◌++◌, ◌==◌, append_assoc, None, Some, Ok, IfOk, refl, AllocError, is_name_byte, IsPayload, is_printable, ◌>>=◌, token_text, IsToken, GrainId, StreamId}
+use Rattle.std.specs.Prelude.{◌≡◌, ◌<◌, map, Result, Err}
+use Rattle.std.specs.Char.{is_ascii_digit}
+use Rattle.stream_ident.specs.declared.ident.SubName.{SubName}
 use Rattle.stream_ident.specs.declared.limits.TheConstants.{MOST_SILOS}
+use Rattle.stream_ident.specs.declared.token.Token.{Token}
 use Rattle.stream_model.specs.declared.op.Op.TheVariants as op
 use Rattle.stream_model.specs.declared.op.Start.TheVariants as start
 use Rattle.stream_script.specs.declared.parser.command.Command.{Command}
@@ -15,15 +18,81 @@ use Rattle.stream_script.specs.declared.parser.command.Verb.{Verb}
 use Rattle.stream_script.specs.declared.parser.command.Verb.TheVariants.{Pub}
 use Rattle.stream_script.specs.Fields.{or_fault, guard}
 use Rattle.stream_script.specs.Forms.{texts_of, payloads_of, pub_fields, sub_latest, sub_from, unsub_words, rule_words, pull_fields, deliver_words, retry_words, ack_fields, purge_fields, move_words, begin_one, begin_most, commit_fields, deactivate_words, ready_first, ready_after, due_first, due_after, up_words, down_words, verb_command}
-use Rattle.stream_script.specs.Grammar.{IsSpelled, Reads}
-use Rattle.stream_script.specs.Pieces.{Piece, Word, Text, is_space, AreSpaces, IsLineOf}
+use Rattle.stream_script.specs.Grammar.{IsStream, IsGrain, IsSub, IsQueue, IsSpelled, Reads}
+use Rattle.stream_script.specs.Pieces.{Piece, Word, Text, is_space, is_special, escaped, spelling, AreSpaces, IsLineOf}
 use Rattle.stream_script.specs.Reading.{command_of, is_skipped, reading}
+use Rattle.stream_script.specs.Spelling.{stream_text, grain_text, sub_text}
 use Rattle.stream_script.specs.Verbs.{may_stand, not_here}
-use Rattle.stream_script.proofs.FieldLemmas.{number_again, queue_again, stream_again, grain_again, token_again, payload_again, bare_name_again}
+use Rattle.stream_script.proofs.FieldLemmas.{list_all-weaker, number_again, queue_again, stream_again, grain_again, token_again, payload_again, bare_name_again}
 use Rattle.stream_script.proofs.LineLemmas.{pieces_of-line}
-use Rattle.stream_script.proofs.PrintableLemmas.{IsPrintable, line_printable, name_printable, number_printable, queue_printable, stream_printable, grain_printable, token_printable, sub_printable, payloads_printable, word_printable}
-use Rattle.stream_script.proofs.SubLemmas.{sub_again, own_sub_again, name_all}
+use Rattle.stream_script.proofs.SubLemmas.{sub_again, own_sub_again, list_all-both, decimal_all, name_all, stream_text_all, grain_text_all, name_text_all}
 use Rattle.stream_script.proofs.VerbLemmas.{verb_word, verb_of-word, verb_for, may_stand-verb}
+
+-- ---- each byte is printable
+
+name_printable : (byte : ℕ) → is_name_byte byte ≡ true → is_printable byte ≡ true
+name_printable byte h = grind (arith, nat_tests)
+
+digit_printable : (byte : ℕ) → is_ascii_digit byte ≡ true → is_printable byte ≡ true
+digit_printable byte h = grind (arith, nat_tests)
+
+space_printable : (byte : ℕ) → is_space byte ≡ true → is_printable byte ≡ true
+space_printable byte h = rw (eqb-true byte 32 h) refl
+
+abbrev IsPrintable : Piece → Type 0
+IsPrintable (Word bytes) = list_all is_printable bytes ≡ true
+IsPrintable (Text bytes) = list_all is_printable bytes ≡ true
+
+escaped_printable : (bytes : List ℕ) → list_all is_printable bytes ≡ true → list_all is_printable (escaped bytes) ≡ true
+escaped_printable [] h = refl
+escaped_printable (byte ∷ bytes) h =
+    let parts = and_parts (is_printable byte) (list_all is_printable bytes) h in
+    let others = escaped_printable bytes parts.1 in
+    elim (cases_Bool (is_special byte)) [
+      | inl s ↦ rw s (and_from (is_printable byte) (list_all is_printable (escaped bytes)) parts.0 others)
+      | inr s ↦ rw s (and_from (is_printable byte) (list_all is_printable (escaped bytes)) parts.0 others)
+    ]
+
+spelling_printable : (piece : Piece) → IsPrintable piece → list_all is_printable (spelling piece) ≡ true
+spelling_printable (Word bytes) h = h
+spelling_printable (Text bytes) h = list_all-both is_printable (escaped bytes) (34 ∷ []) (escaped_printable bytes h) refl
+
+line_printable : (line : List ℕ) (pieces : List Piece) → IsLineOf line pieces → AllByRecursion IsPrintable pieces → list_all is_printable line ≡ true
+line_printable line [] made are = list_all-weaker is_space is_printable space_printable line made
+line_printable line (piece ∷ pieces) made are =
+    let spaces = list_all-weaker is_space is_printable space_printable made.0 made.3 in
+    let front = list_all-both is_printable made.0 (spelling piece) spaces (spelling_printable piece are.0) in
+    rw made.2 (list_all-both is_printable (made.0 ++ spelling piece) made.1 front (line_printable made.1 pieces made.6 are.1))
+
+number_printable : (n : ℕ) → n < 2 ^ 64 → IsPrintable (Word (decimal n))
+number_printable n small = decimal_all is_printable digit_printable n small
+
+stream_printable : (stream : StreamId) → IsStream stream → IsPrintable (Word (stream_text stream))
+stream_printable stream is = stream_text_all is_printable name_printable refl stream is
+
+grain_printable : (grain : GrainId) → IsGrain grain → IsPrintable (Word (grain_text grain))
+grain_printable grain is = grain_text_all is_printable name_printable refl grain is
+
+token_printable : (token : Token) → IsToken token → IsPrintable (Word (token_text token))
+token_printable token is =
+    list_all-both is_printable (decimal token.seq) (46 ∷ decimal token.idx) (number_printable token.seq is.seq) (number_printable token.idx (omega (arith, is.idx)))
+
+queue_printable : (queues queue : ℕ) → IsQueue queues queue → IsPrintable (Word (decimal queue))
+queue_printable queues queue is = number_printable queue (omega (arith, is.1))
+
+sub_printable : (queues queue : ℕ) (sub : SubName) → IsQueue queues queue → IsSub sub → IsPrintable (Word (sub_text queue sub))
+sub_printable queues queue sub is_queue is_sub =
+    list_all-both is_printable (decimal queue) (58 ∷ _) (queue_printable queues queue is_queue) (name_text_all is_printable name_printable digit_printable refl refl sub is_sub)
+
+payloads_printable : (payloads : List (List ℕ)) → AllByRecursion IsPayload payloads → AllByRecursion IsPrintable (map Text payloads)
+payloads_printable [] are = tt
+payloads_printable (payload ∷ payloads) are = (are.0.good, payloads_printable payloads are.1)
+
+word_printable : (verb : Verb) → IsPrintable (Word (verb_word verb))
+word_printable Pub = refl
+word_printable _ = refl
+
+-- ---- the pieces of a command
 
 texts_again : (payloads : List (List ℕ)) → texts_of (map Text payloads) ≡ Ok payloads
 texts_again [] = refl
