@@ -5,7 +5,6 @@ pub mod FieldLemmas
 pub mod FoundLemmas
 pub mod LineLemmas
 pub mod PieceLemmas
-pub mod PublishingLemmas
 pub mod ReadLemmas
 pub mod ReportLemmas
 pub mod Running
