@@ -1,8 +1,9 @@
-use Rattle.stream_script.proofs.ReportLemmas.{report_more, report_done, report_failed}
+use Rattle.stream_script.proofs.ReportLemmas.{report_more, report_done}
+use Rattle.stream_script.proofs.Texts.{writes_failed}
 use Rattle.stream_script.proofs.printer.report.push_report.Goals as goal
 
 pub returns-in_err-push_queue : goal.returns-in_err-push_queue
-returns-in_err-push_queue c = report_failed c.args.out.now.items c.loop-queue.out.items _ c.loop-queue.queue c.args.partitions.now _ c.loop-queue.invariant c.in_err-push_queue.ensures c.from_residual-in_err-push_queue.ensures.0
+returns-in_err-push_queue c = writes_failed c.args.out.now.items c.loop-queue.out.items _ _ _ _ c.loop-queue.invariant.appended c.in_err-push_queue.ensures c.from_residual-in_err-push_queue.ensures.0
 
 pub loop-queue-preserved : goal.loop-queue-preserved
 loop-queue-preserved c =
