@@ -16,20 +16,15 @@ with_one : {C : Type 0} (front : List C) (y : C) (rest : Result (List C) FaultKi
 with_one front y (Ok ys) = ap (λ all. Ok all) (sym (append_assoc front (y ∷ []) ys))
 with_one front y (Err fault) = refl
 
--- with an element in front of the rest
-abbrev with_next : {B C : Type 0} → (B → Result C FaultKind) → List C → List B → Result C FaultKind → Result (List C) FaultKind
-with_next read front xs first = with_read front (first >>= λ y. read_all read xs >>= λ ys. Ok (y ∷ ys))
-
 -- one more element was read, and pushed
 pub read_more : {A B C D : Type 0} (read : B → Result C FaultKind) (view : A → B) (value : D → C) (front after : List D) (xs : List A) (i : ℕ) (x : A) (y : D) (whole : Result (List C) FaultKind)
     → after ≡ front ++ y ∷ [] → i < length xs → x ≡ get_or xs i x → read (view x) ≡ Ok (value y) → with_read (map value front) (read_all read (map view (drop i xs))) ≡ whole
     → with_read (map value after) (read_all read (map view (drop (i + 1) xs))) ≡ whole
 read_more read view value front after xs i x y whole pushed within is reads so_far =
     let rest = map view (drop (i + 1) xs) in
+    let here = rw (drop-read xs i x within is, reads) at so_far in
     ap (λ front. with_read front (read_all read rest)) (ap (map value) pushed ∙ map_push value front y)
-    ∙ (sym (with_one (map value front) (value y) (read_all read rest))
-    ∙ (ap (with_next read (map value front) rest) (sym reads)
-    ∙ (ap (λ all. with_read (map value front) (read_all read (map view all))) (sym (drop-read xs i x within is)) ∙ so_far)))
+    ∙ (sym (with_one (map value front) (value y) (read_all read rest)) ∙ here)
 
 -- an element has a fault
 pub read_stuck : {A B C X : Type 0} (read : B → Result C FaultKind) (view : A → B) (given : X → List C) (front : List C) (xs : List A) (i : ℕ) (x : A) (fault : FaultKind) (result : Result X LineError) (whole : Result (List C) FaultKind)
@@ -37,17 +32,11 @@ pub read_stuck : {A B C X : Type 0} (read : B → Result C FaultKind) (view : A 
     → IsErr result → IsErrAnd result (λ e. e ≡ errors.Fault fault) → Gives given result whole
 read_stuck read view given front xs i x fault (Ok done) whole within is reads so_far failed e = absurd cc
 read_stuck read view given front xs i x fault (Err error) whole within is reads so_far failed e =
-    let stuck : whole ≡ Err fault =
-    sym so_far
-    ∙ (ap (λ all. with_read front (read_all read (map view all))) (drop-read xs i x within is)
-    ∙ ap (with_next read front (map view (drop (i + 1) xs))) reads) in
+    let stuck = rw (drop-read xs i x within is, reads) at so_far in
     let is : error ≡ errors.Fault fault = e in
-    rw is stuck
+    rw is (sym stuck)
 
 -- all elements were read
 pub read_done : {A B C : Type 0} (read : B → Result C FaultKind) (view : A → B) (front : List C) (xs : List A) (i : ℕ) (whole : Result (List C) FaultKind)
     → length xs ≤ i → with_read front (read_all read (map view (drop i xs))) ≡ whole → whole ≡ Ok front
-read_done read view front xs i whole all so_far =
-    sym so_far
-    ∙ (ap (λ rest. with_read front (read_all read (map view rest))) (drop_all i xs all)
-    ∙ ap (λ ys. Ok ys) (append-nil front))
+read_done read view front xs i whole all so_far = sym (rw (drop_all i xs all, append-nil front) at so_far)
