@@ -23,6 +23,14 @@ module _ {O R : Type 0} (test : O → Bool) where
   owns-both xs ys [] a b = tt
   owns-both xs ys (e ∷ es) a b = (either xs ys e.number a.0 b.0, owns-both xs ys es a.1 b.1)
 
+module _ {O R S : Type 0} where
+  -- a call of the pass stands in what it has seen later too
+  whole-more : (p q : PassView O R S) (more before : List (Entry O R)) (o : O) (r : R) (later : List (Entry O R)) → q.number ≡ p.number → q.seen ≡ p.seen ++ more → p.seen ≡ (before ++ entry p.number o r ∷ []) ++ later
+      → q.seen ≡ (before ++ entry q.number o r ∷ []) ++ (later ++ more)
+  whole-more p q more before o r later number seen whole =
+      seen ∙ ap (λ es. es ++ more) whole ∙ append_assoc (before ++ entry p.number o r ∷ []) later more
+      ∙ ap (λ n. (before ++ entry n o r ∷ []) ++ (later ++ more)) (sym number)
+
 module _ {O R S : Type 0} (test : O → Bool) where
   pub owns-joined : (p q : PassView O R S) → Agree p q (joined_pass p q) → OwnsNone test (numbers_of p) p.seen → OwnsNone test (numbers_of q) q.seen
       → OwnsNone test (numbers_of (joined_pass p q)) (joined_pass p q).seen
@@ -37,17 +45,7 @@ module _ {O R S : Type 0} (test : O → Bool) where
   -- what a pass owns past the mark, it owns later
   pub past-more : (mark : ℕ) (p q : PassView O R S) (more : List (Entry O R)) → q.number ≡ p.number → q.seen ≡ p.seen ++ more → HasOwnPast test mark p → HasOwnPast test mark q
   past-more mark p q more number seen h =
-      record {
-        before = h.before;
-        op = h.op;
-        reply = h.reply;
-        later = h.later ++ more;
-        whole =
-            seen ∙ ap (λ es. es ++ more) h.whole ∙ append_assoc (h.before ++ entry p.number h.op h.reply ∷ []) h.later more
-            ∙ ap (λ n. (h.before ++ entry n h.op h.reply ∷ []) ++ (h.later ++ more)) (sym number);
-        past = h.past;
-        picked = h.picked;
-      }
+      record { before = h.before; op = h.op; reply = h.reply; later = h.later ++ more; whole = whole-more p q more h.before h.op h.reply h.later number seen h.whole; past = h.past; picked = h.picked }
 
 -- an entry with one of these numbers that the test picks stands before those of which none is such
 module _ {O R : Type 0} (test : O → Bool) (numbers : List ℕ) where
@@ -106,32 +104,20 @@ module _ {S O R : Type 0} (reply : S → O → R) (after : S → O → S) where
       let added = adds-none test p op result q none calls in
       past-before test mark p q added.0 (calls-number p op result q calls) added.1 added.2 h
 
-  -- and the call itself, where it was answered
+  -- an answered call stands last
+  answered-last : (p : PassView O R S) (op : O) (r : R) (q : PassView O R S) → (calls : CallsBy reply after p op (Ok r) q) → q.seen ≡ ((p.seen ++ calls.call.0) ++ entry q.number op r ∷ []) ++ []
+  answered-last p op r q calls =
+      calls.call.1 ∙ ap (λ n. (p.seen ++ calls.call.0) ++ entry n op r ∷ []) (sym (calls-number p op (Ok r) q calls))
+      ∙ sym (append-nil ((p.seen ++ calls.call.0) ++ entry q.number op r ∷ []))
+
+  -- so it is past the mark
   pub past-answered : (test : O → Bool) (mark : ℕ) (p : PassView O R S) (op : O) (r : R) (q : PassView O R S) → CallsBy reply after p op (Ok r) q → mark ≤ length p.seen → test op ≡ true → HasOwnPast test mark q
   past-answered test mark p op r q calls below picked =
-      record {
-        before = p.seen ++ calls.call.0;
-        op = op;
-        reply = r;
-        later = [];
-        whole =
-            calls.call.1 ∙ ap (λ n. (p.seen ++ calls.call.0) ++ entry n op r ∷ []) (sym (calls-number p op (Ok r) q calls))
-            ∙ sym (append-nil ((p.seen ++ calls.call.0) ++ entry q.number op r ∷ []));
-        past = grind (arith, length-append p.seen calls.call.0);
-        picked = picked;
-      }
+      record { before = p.seen ++ calls.call.0; op = op; reply = r; later = []; whole = answered-last p op r q calls; past = grind (arith, length-append p.seen calls.call.0); picked = picked }
 
-  -- an answered call is the last of the pass's own
+  -- and the last of the pass's own
   pub last-answered : (p : PassView O R S) (op : O) (r : R) (q : PassView O R S) → CallsBy reply after p op (Ok r) q → LastOwn q op r
-  last-answered p op r q calls =
-      record {
-        before = p.seen ++ calls.call.0;
-        later = [];
-        whole =
-            calls.call.1 ∙ ap (λ n. (p.seen ++ calls.call.0) ++ entry n op r ∷ []) (sym (calls-number p op (Ok r) q calls))
-            ∙ sym (append-nil ((p.seen ++ calls.call.0) ++ entry q.number op r ∷ []));
-        others = tt;
-      }
+  last-answered p op r q calls = record { before = p.seen ++ calls.call.0; later = []; whole = answered-last p op r q calls; others = tt }
 
   -- so it is the last of those that the test picks, where it picks it
   pub last-of-answered : (test : O → Bool) (p : PassView O R S) (op : O) (r : R) (q : PassView O R S) → CallsBy reply after p op (Ok r) q → test op ≡ true → LastOf test q op r
@@ -146,11 +132,7 @@ module _ {S O R : Type 0} (reply : S → O → R) (after : S → O → S) where
       record {
         before = last.before;
         later = last.later ++ added.0;
-        whole =
-            added.1 ∙ ap (λ es. es ++ added.0) last.whole ∙ append_assoc (last.before ++ entry p.number o s ∷ []) last.later added.0
-            ∙ ap (λ n. (last.before ++ entry n o s ∷ []) ++ (last.later ++ added.0)) (sym (calls-number p op (Ok r) q calls));
+        whole = whole-more p q added.0 last.before o s last.later (calls-number p op (Ok r) q calls) added.1 last.whole;
         picked = last.picked;
-        none =
-            subst (λ ks. OwnsNone test ks (last.later ++ added.0)) (sym (ap numbers_of calls.only))
-            (owns-append test (numbers_of p) last.later added.0 last.none added.2);
+        none = subst (λ ks. OwnsNone test ks (last.later ++ added.0)) (sym (ap numbers_of calls.only)) (owns-append test (numbers_of p) last.later added.0 last.none added.2);
       }
