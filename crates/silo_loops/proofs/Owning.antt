@@ -1,10 +1,7 @@
 -- What a pass owns after a call, a split and a join.
-use Rattle.silo_loops.proofs.Prelude.{◌≡◌, ℕ, ◌≤◌, Bool, true, false, List, [], ◌∷◌, ◌++◌, length, drop, Contains, Result, Ok, Err, refl, sym, ap, subst, ◌∙◌, append_assoc, arith, inl, inr, false≢true, append-nil, length-append, Contains-append_cases, Agree, IsSplitOff, joined_pass, numbers_of, Claims, Foreign, entry, PassView, Entry, Refusal}
+use Rattle.silo_loops.proofs.Prelude.{◌≡◌, ℕ, ◌≤◌, Bool, true, false, List, [], ◌∷◌, ◌++◌, length, drop, Contains, Result, Ok, Err, refl, sym, ap, subst, ◌∙◌, append_assoc, arith, ⊎_elim, false≢true, append-nil, length-append, Contains-append_cases, Agree, IsSplitOff, joined_pass, numbers_of, Claims, Foreign, entry, PassView, Entry, Refusal}
 use Rattle.silo_loops.specs.Passes.{CallsBy, HasOwnPast, LastOf, LastOwn, OwnsNone}
 use Rattle.silo_loops.proofs.Taking.{called-alone}
-
-either : {A : Type 0} (xs ys : List ℕ) (k : ℕ) → (Contains xs k → A) → (Contains ys k → A) → Contains (xs ++ ys) k → A
-either {A} xs ys k f g c = elim (Contains-append_cases xs ys k c) as (λ w. A) [ inl x ↦ f x | inr y ↦ g y ]
 
 module _ {O R : Type 0} (test : O → Bool) where
   pub owns-append : (numbers : List ℕ) (xs ys : List (Entry O R)) → OwnsNone test numbers xs → OwnsNone test numbers ys → OwnsNone test numbers (xs ++ ys)
@@ -21,7 +18,7 @@ module _ {O R : Type 0} (test : O → Bool) where
 
   pub owns-both : (xs ys : List ℕ) (es : List (Entry O R)) → OwnsNone test xs es → OwnsNone test ys es → OwnsNone test (xs ++ ys) es
   owns-both xs ys [] a b = tt
-  owns-both xs ys (e ∷ es) a b = (either xs ys e.number a.0 b.0, owns-both xs ys es a.1 b.1)
+  owns-both xs ys (e ∷ es) a b = ((λ own. ⊎_elim a.0 b.0 (Contains-append_cases xs ys e.number own)), owns-both xs ys es a.1 b.1)
 
 module _ {O R S : Type 0} where
   -- a call of the pass stands in what it has seen later too

@@ -1,7 +1,7 @@
 -- The words of other crates that these proofs share, each with its home.
 pub use Rattle.activation_directory.specs.declared.reply.DirectoryReply.{DirectoryReply}
 pub use Rattle.shared_partition.specs.Partitions.{IsOfEmpty, LeavesLegal, TellsOneHistory, after, replied}
-pub use Rattle.std.proofs.Common.{All, Bool, Contains, Err, List, None, Ok, OnErr, OnOk, Option, Result, Some, [], add-one, ap, append_assoc, arith, drop, false, get_or, inl, inr, length, map, refl, replicate, rules, set, subst, suc, sym, take, true, vec_capacity, vec_len, zero, ℕ, ◌++◌, ◌+◌, ◌-◌, ◌<◌, ◌||◌, ◌↔◌, ◌∙◌, ◌∷◌, ◌≡◌, ◌≤◌, ◌⊎◌}
+pub use Rattle.std.proofs.Common.{All, Bool, Contains, Err, List, None, Ok, OnErr, OnOk, Option, Result, Some, [], add-one, ap, append_assoc, arith, drop, false, get_or, inl, inr, length, map, refl, replicate, rules, set, subst, suc, sym, take, true, vec_capacity, vec_len, zero, ℕ, ◌++◌, ◌+◌, ◌-◌, ◌<◌, ◌||◌, ◌↔◌, ◌∙◌, ◌∷◌, ◌≡◌, ◌≤◌, ◌⊎◌, ⊎_elim}
 pub use Rattle.std.proofs.lemmas.Bool.{cases_lt, false≢true}
 pub use Rattle.std.proofs.lemmas.Grind.{common_steps}
 pub use Rattle.std.proofs.lemmas.List.{append-nil, drop_all, get_or-set_same, length-append, length-map, length-set, length_push, set-get_or, take_all}
