@@ -1,5 +1,5 @@
 -- Passes that go on, and the lines that have them.
-use Rattle.silo_loops.proofs.Prelude.{◌≡◌, ℕ, zero, suc, ◌<◌, ◌≤◌, ◌+◌, List, [], ◌∷◌, ◌++◌, length, get_or, set, Contains, Option, refl, sym, ap, subst, ◌∙◌, append_assoc, arith, append-nil, get_or-set_same, length-map, length-set, length_push, set-get_or, AllZip-get_or, Contains-append_left, AllByRecursion, AllZip, Agree, HasOnlyMade, joined_pass, numbers_of, Foreign, Origin, PassView, Entry}
+use Rattle.silo_loops.proofs.Prelude.{◌≡◌, ℕ, zero, suc, ◌<◌, ◌≤◌, ◌+◌, List, [], ◌∷◌, ◌++◌, length, get_or, set, Contains, Option, refl, sym, ap, subst, ◌∙◌, append_assoc, arith, append-nil, get_or-set_same, length-map, length-set, length_push, rules, set-get_or, AllZip-get_or, Contains-append_left, AllByRecursion, AllZip, Agree, HasOnlyMade, joined_pass, numbers_of, Foreign, Origin, PassView, Entry}
 use Rattle.std.proofs.lemmas.Slice.Zip.{AllZip-long}
 use Rattle.turnstile.proofs.Histories.{foreign-append}
 use Rattle.stream_model.specs.declared.plain.PlainPartition.{PlainPartition}
@@ -89,11 +89,8 @@ module _ {A : Type 0} (R : A → A → Type 0) where
 
   zip-trans : ((x y z : A) → R x y → R y z → R x z) → (xs ys zs : List A) → AllZip R xs ys → AllZip R ys zs → AllZip R xs zs
   zip-trans on [] [] [] a b = tt
-  zip-trans on [] [] (z ∷ zs) a b = absurd b
-  zip-trans on [] (y ∷ ys) zs a b = absurd a
-  zip-trans on (x ∷ xs) [] zs a b = absurd a
-  zip-trans on (x ∷ xs) (y ∷ ys) [] a b = absurd b
   zip-trans on (x ∷ xs) (y ∷ ys) (z ∷ zs) a b = (on x y z a.0 b.0, zip-trans on xs ys zs a.1 b.1)
+  zip-trans on _ _ _ a b = absurd (search rules)
 
 pub silents-refl : (ls : List LineView) → AreSilent ls ls
 silents-refl ls = zip-refl LineIsSilent (λ l. silent-refl l.pass) ls
@@ -116,9 +113,8 @@ goes-set ls at d m less on = zip-set LineGoesOn (λ l. on-refl l.pass) ls at d m
 
 zip-places : (R : LineView → LineView → Type 0) → ((l m : LineView) → R l m → AreAlike l m) → (ls ms : List LineView) → AllZip R ls ms → places ms ≡ places ls
 zip-places R alike [] [] all = refl
-zip-places R alike [] (m ∷ ms) all = absurd all
-zip-places R alike (l ∷ ls) [] all = absurd all
 zip-places R alike (l ∷ ls) (m ∷ ms) all = ap (λ t. t ∷ places ms) (alike l m all.0) ∙ ap (λ ts. l.pass.turnstile ∷ ts) (zip-places R alike ls ms all.1)
+zip-places R alike _ _ all = absurd all
 
 -- lines that go on are at their turnstiles
 pub goes-places : (ls ms : List LineView) → GoOn ls ms → places ms ≡ places ls
@@ -143,9 +139,8 @@ split-places ls ms all = zip-places IsSplitLine split-alike ls ms all
 
 pub split-marked : (ls ms : List LineView) → AllZip IsSplitLine ls ms → AllByRecursion IsMarked ms
 split-marked [] [] all = tt
-split-marked [] (m ∷ ms) all = absurd all
-split-marked (l ∷ ls) [] all = absurd all
 split-marked (l ∷ ls) (m ∷ ms) all = (all.0.1, split-marked ls ms all.1)
+split-marked _ _ all = absurd all
 
 -- a loop that joins each of the others to the one at its place, from the last one on
 pub join-next : (ls ms rest : List LineView) (at : ℕ) (l m : LineView) → ms ≡ rest ++ m ∷ [] → at ≡ length rest → AllZipFront AreAlike ls ms → (at < length ls) × (l ≡ get_or ls at l → AreAlike l m)
@@ -214,11 +209,8 @@ goes-some ls ms on some = let long = goes-length ls ms on in omega (arith, long)
 -- the lines have taken in others, and stay so
 pub taken-lines : (ls ms : List LineView) (xs : List LineView) → GoOn ls ms → AllZip HasTakenIn ls xs → AllZip HasTakenIn ms xs
 taken-lines [] [] [] on taken = tt
-taken-lines [] [] (x ∷ xs) on taken = absurd taken
-taken-lines [] (m ∷ ms) xs on taken = absurd on
-taken-lines (l ∷ ls) [] xs on taken = absurd on
-taken-lines (l ∷ ls) (m ∷ ms) [] on taken = absurd taken
 taken-lines (l ∷ ls) (m ∷ ms) (x ∷ xs) on taken = (taken-goes x.pass l.pass m.pass taken.0 on.0, taken-lines ls ms xs on.1 taken.1)
+taken-lines _ _ _ on taken = absurd (search rules)
 
 pub taken-silo : (ls ms : List LineView) (d e : DirectoryPass) (s : SiloView) → GoOn ls ms → GoesOn d e → AreTakenIn ls d s → AreTakenIn ms e s
 taken-silo ls ms d e s lines directory taken =
