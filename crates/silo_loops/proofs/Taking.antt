@@ -44,13 +44,11 @@ module _ {O R S : Type 0} where
   pub taken-joined : (p q r : PassView O R S) → r ≡ joined_pass p q → Agree p q r → IsOtherIn q r
   taken-joined p q r is agree =
       let numbers : numbers_of r ≡ numbers_of p ++ numbers_of q = ap (λ (w : PassView O R S). numbers_of w) is in
+      let first : Contains (numbers_of p) p.number = (0, omega arith, refl) in
       record {
         part = record { numbers = λ k here. subst (λ ks. Contains ks k) (sym numbers) (Contains-append_right (numbers_of p) (numbers_of q) k here); claims = agree.1 };
-        other = λ here. agree.2 r.number (subst (λ k. Contains (numbers_of p) k) (sym (ap (λ (w : PassView O R S). w.number) is)) (first-of p)) here;
+        other = λ here. agree.2 r.number (subst (λ k. Contains (numbers_of p) k) (sym (ap (λ (w : PassView O R S). w.number) is)) first) here;
       }
-    where
-      first-of : (p : PassView O R S) → Contains (numbers_of p) p.number
-      first-of p = (0, omega arith, refl)
 
 module _ {S O R : Type 0} (reply : S → O → R) (after : S → O → S) where
   -- what a call adds to what a pass has seen
