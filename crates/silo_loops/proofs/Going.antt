@@ -13,11 +13,8 @@ use Rattle.silo_loops.proofs.Fronts.{front-all, front-fits, front-last, front-pu
 
 -- the first of a longer list
 pub first-of-all : (number : ℕ) (joined : List ℕ) (k : ℕ) → Contains (number ∷ []) k → Contains (number ∷ joined) k
-first-of-all number joined k here = (0, omega arith, only-one here.0 here.1 here.2)
-  where
-    only-one : (at : ℕ) → at < 1 → get_or (number ∷ []) at k ≡ k → number ≡ k
-    only-one zero within same = same
-    only-one (suc at) within same = absurd (omega arith)
+first-of-all number joined k (zero, within, same) = (0, omega arith, same)
+first-of-all number joined k (suc at, within, same) = absurd (omega arith)
 
 module _ {O R S : Type 0} where
   abbrev pub on-refl : (p : PassView O R S) → GoesOn p p
