@@ -257,7 +257,5 @@ joining-more old all ls ms rest at l m w is here read made agree was =
 
 -- which of as many lines others are at
 pub front-whole : (ls ms : List LineView) → places ms ≡ places ls → AllZipFront HasTakenIn ls ms → AllZip HasTakenIn ls ms
-front-whole ls ms same front = front-all HasTakenIn ls ms (as-many ms ls same) front
-  where
-    as-many : (xs ys : List LineView) → places xs ≡ places ys → length xs ≡ length ys
-    as-many xs ys same = sym (length-map xs (λ (l : LineView). l.pass.turnstile)) ∙ ap (λ (ts : List (Option (Origin PlainPartition))). length ts) same ∙ length-map ys (λ (l : LineView). l.pass.turnstile)
+front-whole ls ms same front =
+    front-all HasTakenIn ls ms (sym (length-map ms (λ (l : LineView). l.pass.turnstile)) ∙ ap (λ (ts : List (Option (Origin PlainPartition))). length ts) same ∙ length-map ls (λ (l : LineView). l.pass.turnstile)) front
