@@ -2,7 +2,6 @@ pub mod Advancing
 pub mod Causes
 pub mod Fronts
 pub mod Going
-pub mod Holding
 pub mod Kept
 pub mod Naming
 pub mod Owning
