@@ -41,11 +41,8 @@ agent-called _ v w c is = tt
 
 -- a step that ends an agent has a cause
 pub agent-cause : (from : Option Over) (did : Advance) (v w : AgentView) → AgentHasCause v → AgentAdvancesFrom from did v w → AgentHasCause w
-agent-cause None (advance.Over end) v w cause a =
-    elim (a.0.1) as (λ s. AgentHasCause w) [
-      | inl c ↦ agent-called w.over v w c c.over
-      | inr k ↦ subst (λ (u : AgentView). AgentHasCause u) (sym k.ended) k.none
-    ]
+agent-cause None (advance.Over end) v w cause ((ends, inl c), counts) = agent-called w.over v w c c.over
+agent-cause None (advance.Over end) v w cause ((ends, inr k), counts) = subst (λ (u : AgentView). AgentHasCause u) (sym k.ended) k.none
 agent-cause None _ v w cause a = subst (λ o. AgentEndsBy o w) (sym a.0.0) tt
 agent-cause (Some end) did v w cause a = subst (λ (u : AgentView). AgentHasCause u) (sym a.1) cause
 
@@ -62,10 +59,8 @@ worker-asked _ v w a is = tt
 
 -- a step that ends a worker has a cause
 pub worker-cause : (follows : Follows) (from : Option Over) (did : Advance) (v w : WorkerView) → WorkerHasCause v → WorkerAdvancesFrom follows from did v w → WorkerHasCause w
-worker-cause follows None (advance.Over end) v w cause a =
-    elim (a.0.1) as (λ s. WorkerHasCause w) [
-      | inl c ↦ worker-called w.over v w c c.over
-      | inr s ↦ elim s as (λ s. WorkerHasCause w) [ inl q ↦ worker-asked w.over v w q q.over | inr k ↦ subst (λ (u : WorkerView). WorkerHasCause u) (sym k.0) k.1 ]
-    ]
+worker-cause follows None (advance.Over end) v w cause ((ends, inl c), counts) = worker-called w.over v w c c.over
+worker-cause follows None (advance.Over end) v w cause ((ends, inr (inl q)), counts) = worker-asked w.over v w q q.over
+worker-cause follows None (advance.Over end) v w cause ((ends, inr (inr k)), counts) = subst (λ (u : WorkerView). WorkerHasCause u) (sym k.0) k.1
 worker-cause follows None _ v w cause a = subst (λ o. WorkerEndsBy o w) (sym a.0.0) tt
 worker-cause follows (Some end) did v w cause a = subst (λ (u : WorkerView). WorkerHasCause u) (sym a.1) cause
