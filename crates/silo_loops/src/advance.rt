@@ -7,6 +7,9 @@ use std::fmt;
 use std::sync::Wait;
 use turnstile::Refusal;
 
+/// The most steps of a visit.
+pub(crate) const MOST_STEPS: u32 = 64;
+
 /// What a step of a loop did.
 #[derive(Clone, Copy, Debug, PartialEq, Eq)]
 pub enum Advance {

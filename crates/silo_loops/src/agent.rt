@@ -3,7 +3,7 @@ ghost use Rattle.std.specs.Prelude.{◌≡◌, length, replicate, None, IfErr, I
 ghost use Rattle.silo_loops.specs.Agents.{AgentAdvances, AgentHasCause, AgentRuns, HasSamePlaces};
 ghost use Rattle.silo_loops.specs.Chains.{Visits};
 
-use crate::advance::{Advance, Over};
+use crate::advance::{Advance, MOST_STEPS, Over};
 use crate::agent_steps::Agent;
 use crate::assigned::Assigned;
 use crate::doorbell::Doorbell;
@@ -13,9 +13,6 @@ use std::alloc::Global;
 use std::marker::Model;
 use std::sync::atomic::{AtomicBool, Ordering};
 use std::sync::{Arc, Wait};
-
-// The most steps of a visit.
-const MOST_STEPS: u32 = 64;
 
 /// The loop of a pulling agent, with its passes. A round is for each queue that is assigned to it, or for those of
 /// them with a hint: Pull, up to 32 times while there is something to pull, then for each due subscription Ack, where

@@ -5,7 +5,7 @@ ghost use Rattle.silo_loops.specs.Chains.{Visits};
 ghost use Rattle.silo_loops.specs.Walks.{Nothing};
 ghost use Rattle.silo_loops.specs.Workers.{IsBeside, WorkerAdvances, WorkerHasCause, WorkerRuns};
 
-use crate::advance::{Advance, Over};
+use crate::advance::{Advance, MOST_STEPS, Over};
 use crate::directory_line::DirectoryLine;
 use crate::doorbell::Doorbell;
 use crate::line::Line;
@@ -16,9 +16,6 @@ use std::marker::Model;
 use std::sync::atomic::{AtomicBool, Ordering};
 use std::sync::{Arc, Wait};
 use stream_ident::{Event, TURN_EVENTS};
-
-// The most steps of a visit.
-const MOST_STEPS: u32 = 64;
 
 /// Room for the events of one turn, which a worker takes with it.
 #[derive(Drop)]
