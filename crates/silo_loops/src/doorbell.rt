@@ -355,7 +355,13 @@ impl Doorbell {
     ) {
         match *answer {
             Ok(DirectoryReply::Entered { .. }) => self.entered(queue, silo),
-            Ok(DirectoryReply::Elsewhere { silo: other }) => self.elsewhere(rt, queue, other),
+            // It was found on another silo, whose workers are told.
+            Ok(DirectoryReply::Elsewhere { silo: other }) => {
+                self.entered(queue, other);
+                if let Some(desk) = self.workers(other) {
+                    desk.tell(rt, queue);
+                }
+            }
             Ok(DirectoryReply::Busy) => {
                 if let Some(desk) = self.workers(silo) {
                     desk.busy(queue);
@@ -369,14 +375,6 @@ impl Doorbell {
     fn entered(&self, queue: usize, silo: u8) {
         if let Some(place) = self.places.get(queue) {
             set(&place.grains, usize::from(silo), true);
-        }
-    }
-
-    // A grain of the queue that is ready was found on another silo, whose workers are told.
-    fn elsewhere<R: Wait>(&self, rt: &R, queue: usize, silo: u8) {
-        self.entered(queue, silo);
-        if let Some(desk) = self.workers(silo) {
-            desk.tell(rt, queue);
         }
     }
 }
