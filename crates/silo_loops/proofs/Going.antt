@@ -98,9 +98,6 @@ silents-trans ls ms ns a b = zip-trans LineIsSilent (λ l m n. silent-trans l.pa
 pub goes-refl : (ls : List LineView) → GoOn ls ls
 goes-refl ls = zip-refl LineGoesOn (λ l. on-refl l.pass) ls
 
-pub goes-same : (ls ms : List LineView) → ms ≡ ls → GoOn ls ms
-goes-same ls ms same = subst (λ (es : List LineView). GoOn ls es) (sym same) (goes-refl ls)
-
 pub goes-trans : (ls ms ns : List LineView) → GoOn ls ms → GoOn ms ns → GoOn ls ns
 goes-trans ls ms ns a b = zip-trans LineGoesOn (λ l m n. on-trans l.pass m.pass n.pass) ls ms ns a b
 

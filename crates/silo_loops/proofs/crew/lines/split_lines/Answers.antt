@@ -1,5 +1,5 @@
 use Rattle.silo_loops.proofs.Prelude.{arith, refl, ◌∙◌, rules, common_steps}
-use Rattle.silo_loops.proofs.Going.{goes-refl, goes-same, goes-trans, refused-alike, refused-on, split-more, splits-all}
+use Rattle.silo_loops.proofs.Going.{goes-refl, goes-trans, refused-alike, refused-on, split-more, splits-all}
 use Rattle.silo_loops.proofs.crew.lines.split_lines.Goals as goal
 
 pub returns-in_err-new-clause-go_on : goal.returns-in_err-new-clause-go_on
@@ -22,7 +22,7 @@ loop-at-preserved g c =
     record { same = more.0; made = more.1; off = more.2; room = c.push_reserved.ensures.capacity ∙ c.loop-at.invariant.room }
 
 pub returns-clause-go_on : goal.returns-clause-go_on
-returns-clause-go_on g c = goes-same c.args.lines.now.items c.loop-at.lines.items c.loop-at.invariant.same
+returns-clause-go_on g c = rw c.loop-at.invariant.same (goes-refl c.args.lines.now.items)
 
 pub returns-clause-new : goal.returns-clause-new
 returns-clause-new g c =
