@@ -67,9 +67,6 @@ module _ {O R S : Type 0} where
   pub silent-made : (p q : PassView O R S) → HasOnlyMade p q → IsSilent p q
   silent-made p q made = subst (λ (w : PassView O R S). IsSilent p w) (sym made.0) (record { on = record { turnstile = refl; number = refl; numbers = λ k here. here; more = []; seen = sym (append-nil p.seen); alone = tt }; foreign = tt })
 
-  pub silent-same : (p q : PassView O R S) → q ≡ p → IsSilent p q
-  silent-same p q same = subst (λ (w : PassView O R S). IsSilent p w) (sym same) (silent-refl p)
-
   pub silent-joined : (p q r : PassView O R S) → r ≡ joined_pass p q → Agree p q r → IsSilent p r
   silent-joined p q r is agree = record { on = on-joined p q r is agree; foreign = foreign-first p.number p.joined agree.0.rest agree.0.foreign }
 

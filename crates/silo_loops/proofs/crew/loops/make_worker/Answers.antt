@@ -1,7 +1,7 @@
 use Rattle.silo_loops.proofs.Prelude.{refl, sym, subst, ap, ◌∙◌}
 use Rattle.silo_loops.specs.Workers.{WorkerView}
-use Rattle.silo_loops.specs.Silos.{IsFreshWorker, IsSplitWorker, IsWorkerAt}
-use Rattle.silo_loops.proofs.Going.{goes-refl, silent-made, silent-refl, silent-same, split-at, split-marked, split-some}
+use Rattle.silo_loops.specs.Silos.{IsFreshWorker, IsSilent, IsSplitWorker, IsWorkerAt}
+use Rattle.silo_loops.proofs.Going.{goes-refl, silent-made, silent-refl, split-at, split-marked, split-some}
 use Rattle.silo_loops.proofs.crew.loops.make_worker.Goals as goal
 
 pub returns-in_err-kit-clause-go_on : goal.returns-in_err-kit-clause-go_on
@@ -34,7 +34,7 @@ pub returns-in_err-own-clause-directory : goal.returns-in_err-own-clause-directo
 returns-in_err-own-clause-directory g c = silent-refl c.args.directory.now
 
 pub returns-in-Ok-clause-directory : goal.returns-in-Ok-clause-directory
-returns-in-Ok-clause-directory g c = silent-same c.args.directory.now c.split.new.self c.in-Ok.ensures.same
+returns-in-Ok-clause-directory g c = subst (λ d. IsSilent c.args.directory.now d) (sym c.in-Ok.ensures.same) (silent-refl c.args.directory.now)
 
 pub returns-in-Err-clause-directory : goal.returns-in-Err-clause-directory
 returns-in-Err-clause-directory g c = silent-made c.args.directory.now c.split.new.self c.in-Err.ensures.made
