@@ -1,6 +1,5 @@
 -- A script cut at its first line feed.
-use Rattle.stream_script.proofs.Prelude.{◌≡◌, suc, ◌<◌, ◌≤◌, eqb, length, ap, ◌∙◌, arith, length-map, option_map, Parts, split_once}
-use Rattle.std.proofs.Common.{ℕ, Bool, true, false, cond, List, [], ◌∷◌, Option, None, Some, refl}
+use Rattle.stream_script.proofs.Prelude.{ℕ, Bool, true, false, cond, List, [], ◌∷◌, Option, None, Some, refl, ◌≡◌, suc, ◌<◌, ◌≤◌, eqb, length, ap, ◌∙◌, arith, length-map, option_map, Parts, split_once}
 use Rattle.stream_script.specs.Lines.{cut_at_feeds, with_first, without_return, lines_of}
 
 -- the lines of a script, from its parts at the first line feed

@@ -1,6 +1,5 @@
 -- One of the partitions done, and each of them in the order of their queues.
-use Rattle.stream_script.proofs.Prelude.{◌≡◌, suc, ◌+◌, ◌<◌, ◌++◌, length, get_or, set, take, drop, Result, Err, ap, append_assoc, arith, add-one, drop-cons, drop-set-lt, get_or_read, take_more_set, OnOk, PlainPartition}
-use Rattle.std.proofs.Common.{ℕ, List, [], ◌∷◌, Ok, refl}
+use Rattle.stream_script.proofs.Prelude.{ℕ, List, [], ◌∷◌, Ok, refl, ◌≡◌, suc, ◌+◌, ◌<◌, ◌++◌, length, get_or, set, take, drop, Result, Err, ap, append_assoc, arith, add-one, drop-cons, drop-set-lt, get_or_read, take_more_set, OnOk, PlainPartition}
 use Rattle.stream_script.specs.Simulation.{behind, each_done}
 use Rattle.stream_script.specs.Writing.{Writes}
 

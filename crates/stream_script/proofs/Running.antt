@@ -1,6 +1,5 @@
 -- Lines done one after another: what was written, and then what the rest writes, is what all write.
-use Rattle.stream_script.proofs.Prelude.{◌≡◌, suc, ◌+◌, ◌++◌, sym, ap, ◌∙◌, append_assoc, add-one, Appends-trans, Appends, PlainPartition}
-use Rattle.std.proofs.Common.{ℕ, List, ◌∷◌, Option, None, Some, Ok}
+use Rattle.stream_script.proofs.Prelude.{ℕ, List, ◌∷◌, Option, None, Some, Ok, ◌≡◌, suc, ◌+◌, ◌++◌, sym, ap, ◌∙◌, append_assoc, add-one, Appends-trans, Appends, PlainPartition}
 use Rattle.stream_script.specs.declared.parser.command.Fault.{Fault}
 use Rattle.stream_script.specs.declared.simulate.SimConfig.{SimConfig}
 use Rattle.stream_script.specs.Simulation.{Outcome, with_text, and_then, run_line, run_lines, RunsLine}

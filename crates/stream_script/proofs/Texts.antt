@@ -1,6 +1,5 @@
 -- One text behind another.
-use Rattle.stream_script.proofs.Prelude.{◌≡◌, ◌+◌, ◌<◌, ◌++◌, length, take, drop, get_or, Result, Err, sym, ap, ◌∙◌, append_assoc, starts_with_rest, take_at, take_more, IsErr}
-use Rattle.std.proofs.Common.{ℕ, Bool, true, false, cond, List, [], ◌∷◌, Ok, refl}
+use Rattle.stream_script.proofs.Prelude.{ℕ, Bool, true, false, cond, List, [], ◌∷◌, Ok, refl, ◌≡◌, ◌+◌, ◌<◌, ◌++◌, length, take, drop, get_or, Result, Err, sym, ap, ◌∙◌, append_assoc, starts_with_rest, take_at, take_more, IsErr}
 use Rattle.std.specs.Io.{StartsWith}
 use Rattle.stream_script.specs.Pieces.{escaped}
 use Rattle.stream_script.specs.Writing.{Writes}

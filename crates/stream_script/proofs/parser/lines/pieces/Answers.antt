@@ -1,5 +1,4 @@
-use Rattle.stream_script.proofs.Prelude.{◌∙◌, ap, arith, map_push}
-use Rattle.std.proofs.Common.{List}
+use Rattle.stream_script.proofs.Prelude.{List, ◌∙◌, ap, arith, map_push}
 use Rattle.stream_script.specs.Lexer.{Between, cut, piece_of, pieces_in}
 use Rattle.stream_script.specs.Pieces.{Piece}
 use Rattle.stream_script.proofs.PieceLemmas.{with_front, line_stuck, line_more, line_done}

@@ -1,5 +1,4 @@
-use Rattle.stream_script.proofs.Prelude.{◌≡◌, ◌-◌, take, drop, length, rules, take_rest}
-use Rattle.std.proofs.Common.{true}
+use Rattle.stream_script.proofs.Prelude.{true, ◌≡◌, ◌-◌, take, drop, length, rules, take_rest}
 use Rattle.stream_script.specs.Lexer.{begins_with}
 use Rattle.stream_script.specs.Pieces.{ends_piece}
 use Rattle.stream_script.proofs.PieceLemmas.{plain_text_found}

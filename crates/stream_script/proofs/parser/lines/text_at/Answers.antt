@@ -1,5 +1,4 @@
-use Rattle.stream_script.proofs.Prelude.{◌≡◌, ◌∙◌, ◌++◌, ◌-◌, take, ap, sym, length, arith, drop, take_rest}
-use Rattle.std.proofs.Common.{◌∷◌, [], List, ℕ}
+use Rattle.stream_script.proofs.Prelude.{◌∷◌, [], List, ℕ, ◌≡◌, ◌∙◌, ◌++◌, ◌-◌, take, ap, sym, length, arith, drop, take_rest}
 use Rattle.stream_script.specs.Lexer.{InText, Closed, cut}
 use Rattle.stream_script.specs.Pieces.{is_special}
 use Rattle.stream_script.proofs.PieceLemmas.{up_to, cut-in_text, cut-quote, cut-escape, cut-text_stuck, CutsOne-along}

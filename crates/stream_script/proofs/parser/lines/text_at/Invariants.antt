@@ -1,5 +1,4 @@
-use Rattle.stream_script.proofs.Prelude.{◌≡◌, ◌≤◌, length}
-use Rattle.std.proofs.Common.{[]}
+use Rattle.stream_script.proofs.Prelude.{[], ◌≡◌, ◌≤◌, length}
 use Rattle.stream_script.specs.Lexer.{InText, cut}
 use Rattle.stream_script.proofs.parser.lines.text_at.Given as goal
 

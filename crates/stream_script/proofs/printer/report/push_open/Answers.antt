@@ -1,6 +1,4 @@
-use Rattle.stream_script.proofs.Prelude.{◌≡◌, ◌++◌, length, ap, sym, length-map, decimal, flat_map, events_at, no_event}
-use Rattle.std.proofs.Common.{◌∷◌, [], refl}
-use Rattle.std.specs.Prelude.{get_or}
+use Rattle.stream_script.proofs.Prelude.{get_or, ◌∷◌, [], refl, ◌≡◌, ◌++◌, length, ap, sym, length-map, decimal, flat_map, events_at, no_event}
 use Rattle.stream_script.specs.Report.{binding_text, handled_line}
 use Rattle.stream_script.proofs.Texts.{appended, writes_then}
 use Rattle.stream_script.proofs.printer.report.push_open.Goals as goal

@@ -1,5 +1,4 @@
-use Rattle.stream_script.proofs.Prelude.{codes, token_text}
-use Rattle.std.proofs.Common.{refl}
+use Rattle.stream_script.proofs.Prelude.{refl, codes, token_text}
 use Rattle.stream_script.proofs.Texts.{appended, writes_then, three_texts}
 use Rattle.stream_script.proofs.printer.text.push_miss.Goals as goal
 

@@ -1,5 +1,4 @@
-use Rattle.stream_script.proofs.Prelude.{append_assoc, subst, sym}
-use Rattle.std.proofs.Common.{refl}
+use Rattle.stream_script.proofs.Prelude.{refl, append_assoc, subst, sym}
 use Rattle.stream_model.proofs.Retyping.{with-same}
 use Rattle.stream_script.specs.Replies.{reply_text}
 use Rattle.stream_script.specs.Writing.{Writes}

@@ -1,5 +1,4 @@
-use Rattle.stream_script.proofs.Prelude.{append_assoc}
-use Rattle.std.proofs.Common.{refl}
+use Rattle.stream_script.proofs.Prelude.{refl, append_assoc}
 use Rattle.stream_script.proofs.Texts.{appended, writes_then}
 use Rattle.stream_script.proofs.printer.text.push_running.Goals as goal
 

@@ -1,5 +1,4 @@
-use Rattle.stream_script.proofs.Prelude.{◌≡◌, ◌<◌, length, arith, empty, PlainPartition}
-use Rattle.std.proofs.Common.{ℕ, Some, refl}
+use Rattle.stream_script.proofs.Prelude.{ℕ, Some, refl, ◌≡◌, ◌<◌, length, arith, empty, PlainPartition}
 use Rattle.stream_model.specs.declared.drain_end.DrainEnd.{DrainEnd}
 use Rattle.stream_model.specs.Draining.{drain}
 use Rattle.stream_script.specs.Replies.{drain_line}

@@ -1,5 +1,4 @@
-use Rattle.stream_script.proofs.Prelude.{◌≡◌, empty}
-use Rattle.std.specs.Prelude.{replicate}
+use Rattle.stream_script.proofs.Prelude.{replicate, ◌≡◌, empty}
 use Rattle.stream_script.proofs.simulate.Simulator.new.Given as goal
 
 abbrev pub invariant-loop : goal.invariant-loop

@@ -1,5 +1,4 @@
-use Rattle.stream_script.proofs.Prelude.{◌≡◌, Result, subst}
-use Rattle.std.proofs.Common.{Bool, Ok}
+use Rattle.stream_script.proofs.Prelude.{Bool, Ok, ◌≡◌, Result, subst}
 use Rattle.stream_script.specs.declared.parser.command.Command.{Command}
 use Rattle.stream_script.specs.declared.parser.command.Command.TheVariants.{Step}
 use Rattle.stream_script.specs.declared.parser.command.Fault.{Fault}
