@@ -1,9 +1,5 @@
 -- What is written as a command is read as it, and each of its bytes is printable.
-use Rattle.stream_script.proofs.Prelude.{◌≡◌, ◌<◌, map, Result, Err, ap, ◌∙◌, subst, arith, inl, inr, cases_Bool, and_from, and_parts, and_left, and_right, eqb-true, nat_tests, decimal, list_all, AllByRecursion, ℕ, ◌^◌, true, false, List, [], ◌∷◌, ◌++◌, ◌==◌, append_assoc, None, Some, Ok, IfOk, refl, AllocError, is_name_byte, IsPayload, is_printable, ◌>>=◌, token_text, IsToken, GrainId, StreamId}
-use Rattle.std.specs.Char.{is_ascii_digit}
-use Rattle.stream_ident.specs.declared.ident.SubName.{SubName}
-use Rattle.stream_ident.specs.declared.limits.TheConstants.{MOST_SILOS}
-use Rattle.stream_ident.specs.declared.token.Token.{Token}
+use Rattle.stream_script.proofs.Prelude.{◌≡◌, ◌<◌, map, Result, Err, ap, ◌∙◌, subst, arith, inl, inr, cases_Bool, and_from, and_parts, and_left, and_right, eqb-true, nat_tests, decimal, list_all, AllByRecursion, ℕ, ◌^◌, true, false, List, [], ◌∷◌, ◌++◌, ◌==◌, append_assoc, None, Some, Ok, IfOk, refl, AllocError, is_name_byte, IsPayload, is_printable, ◌>>=◌, token_text, IsToken, GrainId, StreamId, is_ascii_digit, SubName, MOST_SILOS, Token}
 use Rattle.stream_model.specs.declared.op.Op.TheVariants as op
 use Rattle.stream_model.specs.declared.op.Start.TheVariants as start
 use Rattle.stream_script.specs.declared.parser.command.Command.{Command}

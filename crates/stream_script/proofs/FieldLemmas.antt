@@ -1,9 +1,7 @@
 -- A field that is read is written so, and what is written so is read.
-use Rattle.stream_script.proofs.Prelude.{◌≡◌, ◌<◌, Result, Err, ap, ◌∙◌, subst, arith, and_parts, and_from, ltb-true, lt-ltb, nat_tests, decimal, list_all, ℕ, ◌^◌, Bool, true, false, not, List, [], ◌∷◌, Option, Some, None, Ok, nat_lt, ◌==◌, refl, split_once-front, split_once-joined, is_name_byte, IsName, IsPayload, wrong_in_name, wrong_in_payload, name_or, name_of, payload_or, payload_of, field_or, field_of, stream_of, grain_of, ◌>>=◌, split_once, token_of, token_text, IsToken, GrainId, StreamId}
+use Rattle.stream_script.proofs.Prelude.{◌≡◌, ◌<◌, Result, Err, ap, ◌∙◌, subst, arith, and_parts, and_from, ltb-true, lt-ltb, nat_tests, decimal, list_all, ℕ, ◌^◌, Bool, true, false, not, List, [], ◌∷◌, Option, Some, None, Ok, nat_lt, ◌==◌, refl, split_once-front, split_once-joined, is_name_byte, IsName, IsPayload, wrong_in_name, wrong_in_payload, name_or, name_of, payload_or, payload_of, field_or, field_of, stream_of, grain_of, ◌>>=◌, split_once, token_of, token_text, IsToken, GrainId, StreamId, Token, number_of-decimal, decimal-number_of}
 use Rattle.stream_ident.proofs.NameLemmas.{IsName-from_right, IsPayload-from_right, wrong_in_name-none, wrong_in_payload-none}
-use Rattle.stream_ident.proofs.NumberLemmas.{number_of-decimal, decimal-number_of}
 use Rattle.stream_ident.proofs.TokenLemmas.{token_of-token_text, token_text-token_of}
-use Rattle.stream_ident.specs.declared.token.Token.{Token}
 use Rattle.stream_ident.specs.Number.{number_of}
 use Rattle.stream_script.specs.declared.parser.command.FaultKind.{FaultKind}
 use Rattle.stream_script.specs.declared.parser.command.FaultKind.TheVariants as kind

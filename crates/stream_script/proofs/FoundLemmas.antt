@@ -1,7 +1,5 @@
 -- What is read as a command is written so, and is of a queue that there is.
-use Rattle.stream_script.proofs.Prelude.{◌≡◌, map, Result, Err, codes, ◌%◌, ◌<◌, ◌≤◌, sym, ap, ◌∙◌, subst, arith, inl, inr, list_all, AllByRecursion, ℕ, ◌^◌, Bool, true, false, List, [], ◌∷◌, Option, Some, None, Ok, IfOk, cond, refl, AllocError, IsPayload, is_printable, ◌>>=◌, same_name, token_text, StreamId}
-use Rattle.std.specs.Cmp.Lexicographic.{same_text}
-use Rattle.stream_ident.specs.declared.limits.TheConstants.{MOST_SILOS}
+use Rattle.stream_script.proofs.Prelude.{◌≡◌, map, Result, Err, codes, ◌%◌, ◌<◌, ◌≤◌, sym, ap, ◌∙◌, subst, arith, inl, inr, list_all, AllByRecursion, ℕ, ◌^◌, Bool, true, false, List, [], ◌∷◌, Option, Some, None, Ok, IfOk, cond, refl, AllocError, IsPayload, is_printable, ◌>>=◌, same_name, token_text, StreamId, MOST_SILOS, same_text}
 use Rattle.stream_model.specs.declared.op.Op.{Op}
 use Rattle.stream_model.specs.declared.op.Op.TheVariants as op
 use Rattle.stream_model.specs.declared.op.Start.TheVariants as start

@@ -1,8 +1,5 @@
 -- The cutting gives just the pieces of which a line is made.
-use Rattle.stream_script.proofs.Prelude.{◌≡◌, ◌++◌, length-append, sym, ap, ◌∙◌, arith, inl, inr, cases_Bool, or_parts, or_left, or_from, eqb-true, and_parts, and_from, not-true, append-nil, list_all, option_map, ℕ, true, false, not, List, [], ◌∷◌, Option, Some, None, refl}
-use Rattle.std.proofs.lemmas.Iterator.Adapters.{option_map_id}
-use Rattle.std.proofs.lemmas.List.{append_assoc}
-use Rattle.std.proofs.lemmas.Option.{none-some}
+use Rattle.stream_script.proofs.Prelude.{◌≡◌, ◌++◌, length-append, sym, ap, ◌∙◌, arith, inl, inr, cases_Bool, or_parts, or_left, or_from, eqb-true, and_parts, and_from, not-true, append-nil, list_all, option_map, ℕ, true, false, not, List, [], ◌∷◌, Option, Some, None, refl, none-some, option_map_id, append_assoc}
 use Rattle.stream_script.specs.Cutting.{HasNoPieces}
 use Rattle.stream_script.specs.Pieces.{Piece, Word, Text, is_space, is_quote, is_backslash, ends_word, is_special, escaped, spelling, IsPiece, AreSpaces, ends_piece, IsLineOf}
 use Rattle.stream_script.specs.Lexer.{Place, Between, InWord, InText, InEscape, Closed, cut, pieces_of, begins_with}

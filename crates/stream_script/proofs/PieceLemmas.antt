@@ -1,9 +1,5 @@
 -- How the cutting of a line goes on over a word and over a text.
-use Rattle.stream_script.proofs.Prelude.{◌≡◌, ◌+◌, ◌<◌, ◌≤◌, ◌++◌, length, take, drop, sym, ap, ◌∙◌, arith, inl, inr, cases_Bool, or_parts, or_cases, eqb-true, ltb-false, and_parts, not-true, append-nil, position_or_len, option_map, ℕ, Bool, true, false, ◌&&◌, List, [], ◌∷◌, Option, Some, None, position, unwrap_or, nat_lt, refl}
-use Rattle.std.proofs.lemmas.Option.{cond_some, none-some}
-use Rattle.std.proofs.lemmas.Iterator.Adapters.{option_map_id}
-use Rattle.std.proofs.lemmas.List.{append_assoc}
-use Rattle.stream_ident.proofs.WordLemmas.{one-add}
+use Rattle.stream_script.proofs.Prelude.{◌≡◌, ◌+◌, ◌<◌, ◌≤◌, ◌++◌, length, take, drop, sym, ap, ◌∙◌, arith, inl, inr, cases_Bool, or_parts, or_cases, eqb-true, ltb-false, and_parts, not-true, append-nil, position_or_len, option_map, ℕ, Bool, true, false, ◌&&◌, List, [], ◌∷◌, Option, Some, None, position, unwrap_or, nat_lt, refl, cond_some, none-some, one-add, option_map_id, append_assoc}
 use Rattle.stream_script.specs.Pieces.{Piece, Word, Text, is_space, is_quote, is_backslash, ends_piece, ends_word, is_special}
 use Rattle.stream_script.specs.Lexer.{Place, Between, InWord, InText, Closed, cut, pieces_of, begins_word, begins_with, escape_at, CutsOne}
 

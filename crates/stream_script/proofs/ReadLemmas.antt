@@ -1,6 +1,5 @@
 -- A loop that reads each element of a list.
-use Rattle.stream_script.proofs.Prelude.{◌≡◌, ◌+◌, ◌<◌, ◌≤◌, ◌++◌, length, drop, map, Result, Err, sym, ap, ◌∙◌, map_push, append_assoc, get_or, append-nil, drop_all, ℕ, List, [], ◌∷◌, Ok, refl, IsErr, IsErrAnd, ◌>>=◌}
-use Rattle.stream_ident.proofs.WordLemmas.{drop-read}
+use Rattle.stream_script.proofs.Prelude.{◌≡◌, ◌+◌, ◌<◌, ◌≤◌, ◌++◌, length, drop, map, Result, Err, sym, ap, ◌∙◌, map_push, append_assoc, get_or, append-nil, drop_all, ℕ, List, [], ◌∷◌, Ok, refl, IsErr, IsErrAnd, ◌>>=◌, drop-read}
 use Rattle.stream_script.specs.declared.parser.command.FaultKind.{FaultKind}
 use Rattle.stream_script.specs.declared.parser.command.LineError.{LineError}
 use Rattle.stream_script.specs.declared.parser.command.LineError.TheVariants as errors

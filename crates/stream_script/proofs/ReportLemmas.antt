@@ -1,6 +1,5 @@
 -- The report, queue by queue.
-use Rattle.stream_script.proofs.Prelude.{ℕ, List, ◌≡◌, suc, ◌+◌, ◌<◌, ◌≤◌, ◌++◌, length, get_or, drop, ap, ◌∙◌, append_assoc, add-one, append-nil, drop_all, PlainPartition}
-use Rattle.stream_ident.proofs.WordLemmas.{drop-read}
+use Rattle.stream_script.proofs.Prelude.{ℕ, List, ◌≡◌, suc, ◌+◌, ◌<◌, ◌≤◌, ◌++◌, length, get_or, drop, ap, ◌∙◌, append_assoc, add-one, append-nil, drop_all, PlainPartition, drop-read}
 use Rattle.stream_script.specs.Report.{queue_report, report_from, report_of}
 
 -- This text stands behind what was there, and with the lines of the queues from this one on behind it,

@@ -1,10 +1,7 @@
 -- A name of a subscription that is read is written so, and what is written so is read.
-use Rattle.stream_script.proofs.Prelude.{◌≡◌, ◌<◌, ◌++◌, ap, ◌∙◌, subst, arith, and_parts, and_from, ltb-true, lt-ltb, not-true, or_from, eqb-true, eq-eqb, nat_tests, decimal, list_all, list_any, ℕ, ◌^◌, Bool, true, false, not, List, [], ◌∷◌, Option, Some, None, Ok, nat_lt, ◌==◌, cond, refl, split_once-front, split_once-joined, is_name_byte, IsName, name_of, ◌>>=◌, split_once, GrainId, StreamId}
-use Rattle.std.specs.Char.{is_ascii_digit}
+use Rattle.stream_script.proofs.Prelude.{◌≡◌, ◌<◌, ◌++◌, ap, ◌∙◌, subst, arith, and_parts, and_from, ltb-true, lt-ltb, not-true, or_from, eqb-true, eq-eqb, nat_tests, decimal, list_all, list_any, ℕ, ◌^◌, Bool, true, false, not, List, [], ◌∷◌, Option, Some, None, Ok, nat_lt, ◌==◌, cond, refl, split_once-front, split_once-joined, is_name_byte, IsName, name_of, ◌>>=◌, split_once, GrainId, StreamId, is_ascii_digit, SubName, numerals}
 use Rattle.std.specs.Str.{all_ascii_digits}
 use Rattle.std.proofs.lemmas.Fmt.{digits_decimal}
-use Rattle.stream_ident.proofs.NumberLemmas.{numerals}
-use Rattle.stream_ident.specs.declared.ident.SubName.{SubName}
 use Rattle.stream_ident.specs.declared.ident.SubName.TheVariants as name
 use Rattle.stream_script.specs.declared.parser.command.FaultKind.TheVariants as kind
 use Rattle.stream_script.specs.Fields.{or_fault, as_fault, guard, number_field, queue_field, stream_field, explicit_field, implicit_field, name_from, name_field, sub_parts, sub_field, own_sub_field}

@@ -1,6 +1,5 @@
 -- The word of each verb.
-use Rattle.stream_script.proofs.Prelude.{◌≡◌, codes, sym, ap, subst, inl, inr, cases_Bool, ℕ, true, List, Option, Some, None, Ok, cond, refl, same_name}
-use Rattle.std.specs.Cmp.Lexicographic.{same_text}
+use Rattle.stream_script.proofs.Prelude.{◌≡◌, codes, sym, ap, subst, inl, inr, cases_Bool, ℕ, true, List, Option, Some, None, Ok, cond, refl, same_name, same_text}
 use Rattle.stream_ident.specs.Words.{or_else}
 use Rattle.stream_model.specs.declared.op.Op.TheVariants as op
 use Rattle.stream_script.specs.declared.parser.command.Command.{Command}

@@ -1,5 +1,4 @@
-use Rattle.stream_script.proofs.Prelude.{◌∙◌, sym, refl}
-use Rattle.std.proofs.lemmas.Option.{none-some}
+use Rattle.stream_script.proofs.Prelude.{◌∙◌, sym, refl, none-some}
 use Rattle.stream_script.specs.Lexer.{pieces_of}
 use Rattle.stream_script.proofs.LineLemmas.{none_found, pieces_of-line, line-pieces_of}
 use Rattle.stream_script.proofs.parser.laws.pieces_are_found.Goals as goal

@@ -1,4 +1,4 @@
-use Rattle.std.proofs.Common.{refl}
+use Rattle.stream_script.proofs.Prelude.{refl}
 use Rattle.stream_script.proofs.Texts.{appended, writes_then}
 use Rattle.stream_script.proofs.printer.report.push_binding.Goals as goal
 

@@ -1,7 +1,6 @@
-use Rattle.stream_script.proofs.Prelude.{◌∷◌, [], ℕ, List, Some, ◌≡◌, ◌∙◌, ◌++◌, ◌+◌, ◌<◌, length, slice_get, take, append_assoc, ap, sym, arith, append-nil, take_all, take_more, flat_map}
-use Rattle.std.proofs.lemmas.List.Concat.{flat_map-append}
-use Rattle.std.proofs.lemmas.Option.{get_or_from_slice_get}
+use Rattle.stream_script.proofs.Prelude.{◌∷◌, [], ℕ, List, Some, ◌≡◌, ◌∙◌, ◌++◌, ◌+◌, ◌<◌, length, slice_get, take, append_assoc, ap, sym, arith, append-nil, take_all, take_more, flat_map, get_or_from_slice_get}
 use Rattle.step_core.specs.Reads.{summaries_in_order}
+use Rattle.std.proofs.lemmas.List.Concat.{flat_map-append}
 use Rattle.step_core.specs.declared.reading.SubSummary.{SubSummary}
 use Rattle.stream_script.specs.Report.{summary_text}
 use Rattle.stream_script.proofs.Texts.{writes_failed}
