@@ -1,5 +1,5 @@
 -- What is written as a command is read as it, and each of its bytes is printable.
-use Rattle.stream_script.proofs.Prelude.{◌≡◌, ◌<◌, map, Result, Err, ap, ◌∙◌, subst, arith, inl, inr, cases_Bool, and_from, and_parts, and_left, and_right, eqb-true, nat_tests, decimal, list_all, AllByRecursion, ℕ, ◌^◌, true, false, List, [], ◌∷◌, ◌++◌, ◌==◌, append_assoc, None, Some, Ok, IfOk, refl, AllocError, is_name_byte, IsPayload, is_printable, ◌>>=◌, token_text, IsToken, GrainId, StreamId, is_ascii_digit, SubName, MOST_SILOS, Token}
+use Rattle.stream_script.proofs.Prelude.{◌≡◌, ◌<◌, map, Result, Err, ap, ◌∙◌, subst, arith, inl, inr, cases_Bool, and_from, and_parts, and_left, and_right, eqb-true, nat_tests, decimal, list_all, AllByRecursion, ℕ, ◌^◌, true, false, List, [], ◌∷◌, ◌++◌, ◌==◌, append_assoc, None, Some, Ok, IfOk, refl, AllocError, is_name_byte, IsPayload, is_printable, ◌>>=◌, token_text, IsToken, GrainId, StreamId, is_ascii_digit, SubName, MOST_SILOS, Token, list_all-append}
 use Rattle.stream_model.specs.declared.op.Op.TheVariants as op
 use Rattle.stream_model.specs.declared.op.Start.TheVariants as start
 use Rattle.stream_script.specs.declared.parser.command.Command.{Command}
@@ -187,9 +187,7 @@ spelled_again queues pieces (Down silo) w = (_, w.1, (number_printable silo (ome
 -- ---- a line that begins with a verb is not skipped
 
 not_spaces : (spaces : List ℕ) (byte : ℕ) (bytes : List ℕ) → is_space byte ≡ false → list_all is_space (spaces ++ byte ∷ bytes) ≡ false
-not_spaces [] byte bytes no_space = and_left (is_space byte) (list_all is_space bytes) no_space
-not_spaces (space ∷ spaces) byte bytes no_space =
-    and_right (is_space space) (list_all is_space (spaces ++ byte ∷ bytes)) (not_spaces spaces byte bytes no_space)
+not_spaces spaces byte bytes no_space = list_all-append is_space spaces (byte ∷ bytes) ∙ and_right _ _ (and_left (is_space byte) (list_all is_space bytes) no_space)
 
 not_skipped : (spaces : List ℕ) (byte : ℕ) (bytes : List ℕ) → AreSpaces spaces → is_space byte ≡ false → (byte == 35) ≡ false → is_skipped (spaces ++ byte ∷ bytes) ≡ false
 not_skipped [] byte bytes are no_space no_mark = rw (no_space, no_mark) refl

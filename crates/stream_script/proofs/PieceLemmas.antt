@@ -1,5 +1,5 @@
 -- How the cutting of a line goes on over a word and over a text.
-use Rattle.stream_script.proofs.Prelude.{◌≡◌, ◌+◌, ◌<◌, ◌≤◌, ◌++◌, length, take, drop, sym, ap, ◌∙◌, arith, inl, inr, cases_Bool, or_parts, or_cases, eqb-true, ltb-false, and_parts, not-true, append-nil, position_or_len, option_map, ℕ, Bool, true, false, ◌&&◌, List, [], ◌∷◌, Option, Some, None, position, unwrap_or, nat_lt, refl, cond_some, none-some, one-add, option_map_id, append_assoc}
+use Rattle.stream_script.proofs.Prelude.{◌≡◌, ◌+◌, ◌<◌, ◌≤◌, ◌++◌, length, take, drop, sym, ap, ◌∙◌, arith, inl, inr, cases_Bool, or_parts, or_cases, eqb-true, ltb-false, and_parts, not-true, append-nil, position_or_len, option_map, ℕ, Bool, true, false, ◌&&◌, List, [], ◌∷◌, Option, Some, None, position, unwrap_or, nat_lt, refl, cond_some, none-some, one-add, option_map_id, append_assoc, prefix_len-le-length, not}
 use Rattle.stream_script.specs.Pieces.{Piece, Word, Text, is_space, is_quote, is_backslash, ends_piece, ends_word, is_special}
 use Rattle.stream_script.specs.Lexer.{Place, Between, InWord, InText, Closed, cut, pieces_of, begins_word, begins_with, escape_at, CutsOne}
 
@@ -56,20 +56,13 @@ pub cut-word_quoted : (word rest : List ℕ) → begins_with 34 rest ≡ true �
 cut-word_quoted word [] quoted = cc
 cut-word_quoted word (byte ∷ rest) quoted = rw (eqb-true byte 34 quoted) refl
 
-position_or_len-le : (passes : ℕ → Bool) (bytes : List ℕ) → position_or_len passes bytes ≤ length bytes
-position_or_len-le passes [] = omega arith
-position_or_len-le passes (byte ∷ bytes) =
-    elim (cases_Bool (passes byte)) [
-      | inl h ↦ rw h (omega arith)
-      | inr h ↦ rw (h, one-add) (omega (arith, position_or_len-le passes bytes))
-    ]
-
 -- the first place that passes, or the length, as two calls give it
 pub unwrap_or-position : (passes : ℕ → Bool) (bytes : List ℕ) → unwrap_or (position passes bytes) (length bytes) ≡ position_or_len passes bytes
 unwrap_or-position passes bytes =
+    let within : position_or_len passes bytes ≤ length bytes = prefix_len-le-length (λ byte. not (passes byte)) bytes in
     elim (cases_Bool (nat_lt (position_or_len passes bytes) (length bytes))) [
       | inl h ↦ rw h refl
-      | inr h ↦ rw h (omega (arith, ltb-false _ _ h, position_or_len-le passes bytes))
+      | inr h ↦ rw h (omega (arith, ltb-false _ _ h, within))
     ]
 
 pub word_quoted : (bytes rest : List ℕ) (n : ℕ) → n ≡ position_or_len ends_word bytes → rest ≡ drop n bytes → begins_with 34 rest ≡ true → cut (InWord []) bytes ≡ None

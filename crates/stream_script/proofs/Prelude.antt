@@ -5,6 +5,8 @@ pub use Rattle.std.proofs.lemmas.Bool.Decides.{nat_tests}
 pub use Rattle.std.proofs.lemmas.Bool.{and_from, and_left, and_parts, and_right, cases_Bool, eq-eqb, eqb-true, le-ltb, lt-ltb, ltb-false, ltb-true, not-true, or_cases, or_from, or_left, or_parts}
 pub use Rattle.std.proofs.lemmas.Iterator.Adapters.{option_map_id}
 pub use Rattle.std.proofs.lemmas.List.{append-nil, drop-set-lt, drop_all, get_or_read, length-map, length-replicate, map_push, take-append-drop, take_all, take_at, take_more, take_more_set, take_rest}
+pub use Rattle.std.proofs.lemmas.List.Folds.{list_all-append}
+pub use Rattle.std.proofs.lemmas.List.Sums.{prefix_len-le-length}
 pub use Rattle.std.proofs.lemmas.Option.{cond_some, get_or_from_slice_get, none-some}
 pub use Rattle.std.specs.Char.{is_ascii_digit}
 pub use Rattle.std.specs.Cmp.Lexicographic.{same_text}

@@ -1,5 +1,5 @@
 -- A name of a subscription that is read is written so, and what is written so is read.
-use Rattle.stream_script.proofs.Prelude.{◌≡◌, ◌<◌, ◌++◌, ap, ◌∙◌, subst, arith, and_parts, and_from, ltb-true, lt-ltb, not-true, or_from, eqb-true, eq-eqb, nat_tests, decimal, list_all, list_any, ℕ, ◌^◌, Bool, true, false, not, List, [], ◌∷◌, Option, Some, None, Ok, nat_lt, ◌==◌, cond, refl, split_once-front, split_once-joined, is_name_byte, IsName, name_of, ◌>>=◌, split_once, GrainId, StreamId, is_ascii_digit, SubName, numerals}
+use Rattle.stream_script.proofs.Prelude.{◌≡◌, ◌<◌, ◌++◌, ap, ◌∙◌, subst, arith, and_parts, and_from, ltb-true, lt-ltb, not-true, or_from, eqb-true, eq-eqb, nat_tests, decimal, list_all, list_any, ℕ, ◌^◌, Bool, true, false, not, List, [], ◌∷◌, Option, Some, None, Ok, nat_lt, ◌==◌, cond, refl, split_once-front, split_once-joined, is_name_byte, IsName, name_of, ◌>>=◌, split_once, GrainId, StreamId, is_ascii_digit, SubName, numerals, list_all-append}
 use Rattle.std.specs.Str.{all_ascii_digits}
 use Rattle.std.proofs.lemmas.Fmt.{digits_decimal}
 use Rattle.stream_ident.specs.declared.ident.SubName.TheVariants as name
@@ -21,10 +21,7 @@ pub decimal_all : (q : ℕ → Bool) → ((byte : ℕ) → is_ascii_digit byte �
 decimal_all q weaker n small = digits_all q weaker (decimal n) (digits_decimal numerals n small)
 
 pub list_all-both : (p : ℕ → Bool) (xs ys : List ℕ) → list_all p xs ≡ true → list_all p ys ≡ true → list_all p (xs ++ ys) ≡ true
-list_all-both p [] ys first second = second
-list_all-both p (x ∷ xs) ys first second =
-    let parts = and_parts (p x) (list_all p xs) first in
-    and_from (p x) (list_all p (xs ++ ys)) parts.0 (list_all-both p xs ys parts.1 second)
+list_all-both p xs ys first second = list_all-append p xs ys ∙ and_from _ _ first second
 
 pub name_all : (q : ℕ → Bool) → ((byte : ℕ) → is_name_byte byte ≡ true → q byte ≡ true) → (bytes : List ℕ) → IsName bytes → list_all q bytes ≡ true
 name_all q weaker bytes is = list_all-weaker is_name_byte q weaker bytes is.good
