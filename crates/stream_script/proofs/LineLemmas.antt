@@ -3,7 +3,7 @@ use Rattle.stream_script.proofs.Prelude.{◌≡◌, ◌++◌, length-append, sym
 use Rattle.stream_script.specs.Cutting.{HasNoPieces}
 use Rattle.stream_script.specs.Pieces.{Piece, Word, Text, is_space, is_quote, is_backslash, ends_word, is_special, escaped, spelling, IsPiece, AreSpaces, ends_piece, IsLineOf}
 use Rattle.stream_script.specs.Lexer.{Place, Between, InWord, InText, InEscape, Closed, cut, pieces_of, begins_with}
-use Rattle.stream_script.proofs.PieceLemmas.{ahead, stops_at, cut-space, cut-in_word, cut-word_ended, cut-word_quoted, cut-in_text, cut-quote, cut-escaped, cut-closed, ended_stops}
+use Rattle.stream_script.proofs.PieceLemmas.{ahead, stops_at, cut-space, cut-in_word, cut-word_ended, cut-word_quoted, cut-in_text, cut-quote, cut-escaped, cut-closed}
 use Rattle.stream_script.proofs.SubLemmas.{list_all-both}
 use Rattle.stream_script.proofs.Texts.{escaped-append}
 
@@ -44,7 +44,7 @@ cut-piece (Word (byte ∷ word)) rest is ends =
 cut-piece (Text text) rest is ends =
     option_map_id (cut (InText []) (escaped text ++ 34 ∷ [] ++ rest))
     ∙ (ap (cut (InText [])) (append_assoc (escaped text) (34 ∷ []) rest)
-    ∙ (cut-text_whole [] text (34 ∷ rest) ∙ (option_map_id (cut (Closed text) rest) ∙ cut-closed text rest (ended_stops rest ends))))
+    ∙ (cut-text_whole [] text (34 ∷ rest) ∙ (option_map_id (cut (Closed text) rest) ∙ cut-closed text rest ends)))
 
 -- a line that is made of these pieces is cut into them
 pub pieces_of-line : (line : List ℕ) (pieces : List Piece) → IsLineOf line pieces → pieces_of line ≡ Some pieces

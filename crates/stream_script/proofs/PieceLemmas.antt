@@ -123,19 +123,15 @@ cut-text_stuck text (byte ∷ bytes) stops unquoted none =
     ]
 
 -- a text that a space or the end follows
-pub cut-closed : (text rest : List ℕ) → stops_at is_space rest ≡ true → cut (Closed text) rest ≡ ahead (Text text) (cut Between rest)
-cut-closed text [] stops = refl
-cut-closed text (byte ∷ rest) stops = rw (eqb-true byte 32 stops) (ap (ahead (Text text)) (sym (option_map_id (cut Between rest))))
-
-pub ended_stops : (rest : List ℕ) → ends_piece rest ≡ true → stops_at is_space rest ≡ true
-ended_stops [] h = refl
-ended_stops (byte ∷ rest) h = h
+pub cut-closed : (text rest : List ℕ) → ends_piece rest ≡ true → cut (Closed text) rest ≡ ahead (Text text) (cut Between rest)
+cut-closed text [] ends = refl
+cut-closed text (byte ∷ rest) ends = rw (eqb-true byte 32 ends) (ap (ahead (Text text)) (sym (option_map_id (cut Between rest))))
 
 -- a text without an escape
 pub plain_text_found : (bytes text special rest : List ℕ) (n : ℕ) → n ≡ position_or_len is_special bytes → text ≡ take n bytes → special ≡ drop n bytes → begins_with 34 special ≡ true → rest ≡ drop 1 special → ends_piece rest ≡ true → cut (InText []) bytes ≡ ahead (Text text) (cut Between rest)
 plain_text_found bytes text special rest n at_end front behind quoted after ends =
     let begun = up_to InText is_special cut-in_text [] bytes text special n at_end front behind in
-    let closed = cut-closed text rest (ended_stops rest ends) in
+    let closed = cut-closed text rest ends in
     begun.0 ∙ (cut-quote text special quoted ∙ (ap (cut (Closed text)) (sym after) ∙ closed))
 
 pub CutsOne-along : (place next : Place) (bytes rest : List ℕ) (found : Option (Piece × List ℕ)) → cut place bytes ≡ cut next rest → CutsOne next rest found → CutsOne place bytes found
