@@ -88,10 +88,6 @@ field_of-found field bytes found e =
 field_of-again : (field : ℕ) (bytes : List ℕ) → IsName bytes → field_of field bytes ≡ Ok bytes
 field_of-again field bytes is = ap (field_or field bytes) (wrong_in_name-none bytes is)
 
--- a byte of a name is no slash
-no_slash : (byte : ℕ) → is_name_byte byte ≡ true → not (byte == 47) ≡ true
-no_slash byte h = grind (arith, nat_tests)
-
 pub bare_name_found : (bytes name : List ℕ) → bare_name_field bytes ≡ Ok name → (bytes ≡ name) × IsName name
 unfolding bare_name_field
 bare_name_found bytes name e = name_of-found bytes name (as_fault_ok kind.BadName (name_of bytes) name e)
@@ -122,7 +118,7 @@ stream_found bytes stream e =
 pub stream_again : (stream : StreamId) → IsStream stream → stream_field (stream_text stream) ≡ Ok stream
 unfolding stream_field
 stream_again stream is =
-    let cut = split_once-front 47 stream.namespace stream.key (list_all-weaker is_name_byte (λ byte. not (byte == 47)) no_slash stream.namespace is.0.good) in
+    let cut = split_once-front 47 stream.namespace stream.key (list_all-weaker is_name_byte (λ byte. not (byte == 47)) (λ byte h. grind (arith, nat_tests)) stream.namespace is.0.good) in
     rw (cut, field_of-again 0 stream.namespace is.0, field_of-again 1 stream.key is.1) refl
 
 pub grain_found : (bytes : List ℕ) (grain : GrainId) → grain_field bytes ≡ Ok grain → (bytes ≡ grain_text grain) × IsGrain grain
@@ -136,7 +132,7 @@ grain_found bytes grain e =
 pub grain_again : (grain : GrainId) → IsGrain grain → grain_field (grain_text grain) ≡ Ok grain
 unfolding grain_field
 grain_again grain is =
-    let cut = split_once-front 47 grain.kind grain.key (list_all-weaker is_name_byte (λ byte. not (byte == 47)) no_slash grain.kind is.0.good) in
+    let cut = split_once-front 47 grain.kind grain.key (list_all-weaker is_name_byte (λ byte. not (byte == 47)) (λ byte h. grind (arith, nat_tests)) grain.kind is.0.good) in
     rw (cut, field_of-again 0 grain.kind is.0, field_of-again 1 grain.key is.1) refl
 
 -- ---- tokens and payloads
