@@ -197,8 +197,7 @@ command_of-found m queues (piece ∷ pieces) command e =
     let g = guard_ok (not_here m) (may_stand m a.0) a.0 b.0 b.1 in
     let found = verb_command-found queues b.0 pieces command b.2 in
     let front : piece ≡ Word (verb_word b.0) = verb_in_front-found piece a.0 a.1 ∙ ap (λ (v : Verb). Word (verb_word v)) g.1 in
-    let There : Piece → Type 0 = λ p. IsSpelled queues (p ∷ pieces) command in
-    (verb-may_stand m command (ap (may_stand m) (found.0 ∙ sym g.1) ∙ g.0), subst There (sym front) found.1)
+    (verb-may_stand m command (ap (may_stand m) (found.0 ∙ sym g.1) ∙ g.0), rw front found.1)
 
 lexed-found : (m : Mode) (queues : ℕ) (found : Option (List Piece)) (command : Command) → lexed m queues found ≡ Ok command → (pieces : List Piece) × (found ≡ Some pieces) × (command_of m queues pieces ≡ Ok command)
 lexed-found m queues None command e = absurd cc
