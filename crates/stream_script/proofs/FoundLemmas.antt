@@ -245,9 +245,8 @@ written-within queues pieces queue (op.Due None) some written = written.0.0
 written-within queues pieces queue op.Quiet some written = absurd written
 written-within queues pieces queue _ some written = written.0.0
 
--- what is read, where each command that is read is written so
-pub within-found : (mode : Mode) (queues : ℕ) (line : List ℕ) (result : Result Parsed AllocError) → 1 ≤ queues
-    → ((command : Command) → result ≡ Ok (parsed.Command command) → Reads mode queues line command) → IfOk result (IsWithin queues)
-within-found mode queues line (Ok (parsed.Command (Step queue o))) some found =
-    let reads = found (Step queue o) refl in written-within queues reads.1 queue o some reads.3
-within-found mode queues line _ some found = tt
+-- what a result of `parse_line` says
+pub within-found : (queues : ℕ) (m : Mode) (line : ℕ) (bytes : List ℕ) (result : Result Parsed AllocError) → 1 ≤ queues → IfOk result (λ p. p ≡ reading queues m line bytes) → IfOk result (IsWithin queues)
+within-found queues m line bytes (Ok (parsed.Command (Step queue o))) some exact =
+    let reads = reading-found queues m line bytes (Step queue o) (sym exact) in written-within queues reads.1 queue o some reads.3
+within-found queues m line bytes _ some exact = tt

@@ -6,7 +6,7 @@ use Rattle.stream_script.specs.declared.parser.command.Mode.TheVariants as mode
 use Rattle.stream_script.specs.declared.parser.command.Parsed.{Parsed}
 use Rattle.stream_script.specs.declared.parser.command.Parsed.TheVariants as parsed
 use Rattle.stream_script.specs.Reading.{parsed_as, reading}
-use Rattle.stream_script.proofs.FoundLemmas.{found_from, within-found}
+use Rattle.stream_script.proofs.FoundLemmas.{within-found}
 use Rattle.stream_script.proofs.simulate.Simulator.run_command.Goals as goal
 
 pub step-requires : goal.step-requires
@@ -19,4 +19,4 @@ step-requires c =
     let OfBool : Bool → Type 0 = λ is_command. OfRead (Ok is_command) in
     let exact = subst OfCommand c.in-Step.is (subst OfBool c.in-Ok-true.field-0-test (subst OfRead c.in-Ok-true.is c.in_ok-read_line.ensures)) in
     let step = Ok (parsed.Command (Step c.in-Step.queue c.in-Step.op)) in
-    within-found mode.Sim queues line step c.args.self.now.some (found_from queues mode.Sim c.args.number line step exact)
+    within-found queues mode.Sim c.args.number line step c.args.self.now.some exact
