@@ -50,16 +50,13 @@ read_all-found read make found (x ∷ xs) ys e =
     ap (λ y. y ∷ xs) first ∙ (ap (λ more. make a.0 ∷ more) others ∙ ap (map make) (ok_is (a.0 ∷ b.0) ys b.2))
 
 payloads_found : (texts payloads : List (List ℕ)) → payloads_of texts ≡ Ok payloads → (texts ≡ payloads) × AllByRecursion IsPayload payloads
-payloads_found [] payloads e =
-    let are : [] ≡ payloads = ok_is [] payloads e in
-    (are, subst (AllByRecursion IsPayload) are tt)
+payloads_found [] payloads e = rw (← ok_is [] payloads e) (refl, tt)
 payloads_found (text ∷ texts) payloads e =
     let a = bind_ok (payload_field text) (λ payload. payloads_of texts >>= λ more. Ok (payload ∷ more)) payloads e in
     let b = bind_ok (payloads_of texts) (λ more. Ok (a.0 ∷ more)) payloads a.2 in
     let first = payload_found text a.0 a.1 in
     let others = payloads_found texts b.0 b.1 in
-    let are : a.0 ∷ b.0 ≡ payloads = ok_is (a.0 ∷ b.0) payloads b.2 in
-    (ap (λ (x : List ℕ). x ∷ texts) first.0 ∙ (ap (λ (more : List (List ℕ)). a.0 ∷ more) others.0 ∙ are), subst (AllByRecursion IsPayload) are (first.1, others.1))
+    rw (← ok_is (a.0 ∷ b.0) payloads b.2) (ap (λ (x : List ℕ). x ∷ texts) first.0 ∙ ap (λ (more : List (List ℕ)). a.0 ∷ more) others.0, (first.1, others.1))
 
 -- a field that was read, what is known of it, and what is read behind it
 read_ok : {X A : Type 0} {read : X → Result A FaultKind} {Is : X → A → Type 0} → ((field : X) (x : A) → read field ≡ Ok x → Is field x)
