@@ -104,8 +104,7 @@ sub_parts-found queues bytes found e =
     let queue = queue_found queues parts.0 c.0 c.1 in
     let text : bytes ≡ decimal c.0 ++ 58 ∷ b.0 = joined ∙ (ap (λ (front : List ℕ). front ++ 58 ∷ parts.1) queue.0 ∙ ap (λ (back : List ℕ). decimal c.0 ++ 58 ∷ back) g.1) in
     let made : ℕ × List ℕ = (c.0, b.0) in
-    let Is : ℕ × List ℕ → Type 0 = λ f. (bytes ≡ decimal f.0 ++ 58 ∷ f.1) × IsQueue queues f.0 in
-    subst Is (ok_is made found c.2) (text, queue.1)
+    rw (← ok_is made found c.2) (text, queue.1)
 
 sub_parts-again : (queues queue : ℕ) (sub : SubName) → IsQueue queues queue → IsSub sub → sub_parts queues (sub_text queue sub) ≡ Ok (queue, name_text sub)
 unfolding sub_parts
@@ -124,8 +123,7 @@ sub_found queues bytes found e =
     let named = name_found a.0.1 b.0 b.1 in
     let text : bytes ≡ sub_text a.0.0 b.0 = parts.0 ∙ ap (λ (back : List ℕ). decimal a.0.0 ++ 58 ∷ back) named.0 in
     let made : ℕ × SubName = (a.0.0, b.0) in
-    let Is : ℕ × SubName → Type 0 = λ f. (bytes ≡ sub_text f.0 f.1) × IsQueue queues f.0 × IsSub f.1 in
-    subst Is (ok_is made found b.2) (text, parts.1, named.1)
+    rw (← ok_is made found b.2) (text, (parts.1, named.1))
 
 pub sub_again : (queues queue : ℕ) (sub : SubName) → IsQueue queues queue → IsSub sub → sub_field queues (sub_text queue sub) ≡ Ok (queue, sub)
 unfolding sub_field
