@@ -123,7 +123,7 @@ sub_found queues bytes found e =
     let named = name_found a.0.1 b.0 b.1 in
     let text : bytes ≡ sub_text a.0.0 b.0 = parts.0 ∙ ap (λ (back : List ℕ). decimal a.0.0 ++ 58 ∷ back) named.0 in
     let made : ℕ × SubName = (a.0.0, b.0) in
-    rw (← ok_is made found b.2) (text, (parts.1, named.1))
+    rw (← ok_is made found b.2) (text, parts.1, named.1)
 
 pub sub_again : (queues queue : ℕ) (sub : SubName) → IsQueue queues queue → IsSub sub → sub_field queues (sub_text queue sub) ≡ Ok (queue, sub)
 unfolding sub_field
