@@ -297,8 +297,7 @@ pub(crate) fn keep_at<G: Gate, H: QueueHistory>(lines: &mut Vec<Line<G, H>>, at:
     ensures { lines.new.items ≡ lines.old.items }
 {
     if at < lines.len() {
-        let line = &mut lines[at];
-        line.keep();
+        lines[at].keep();
     }
 }
 
@@ -312,7 +311,6 @@ pub(crate) fn leave_at<G: Gate, H: QueueHistory, R: Wait>(
     ensures { lines.new.items ≡ lines.old.items }
 {
     if at < lines.len() {
-        let line = &mut lines[at];
-        line.leave(rt, doorbell);
+        lines[at].leave(rt, doorbell);
     }
 }
