@@ -223,9 +223,9 @@ impl<G: Gate, H: QueueHistory, D: DirectoryHistory> Worker<G, H, D> {
             op,
             &mut self.events,
         );
-        let over = self.walk.after_look(self.lines.len(), &answer);
+        self.walk.after_look(self.lines.len(), &answer);
         self.doorbell.looked(self.silo, at, self.walk.has_found());
-        over
+        answer.end()
     }
 
     // Asks the directory for the permit of a grain.
@@ -240,7 +240,8 @@ impl<G: Gate, H: QueueHistory, D: DirectoryHistory> Worker<G, H, D> {
         let answer = self.directory.call(rt, alloc, &self.doorbell, op);
         self.doorbell
             .hear_entering(rt, self.silo, self.walk.at, &answer);
-        self.walk.after_enter(grain, &answer)
+        self.walk.after_enter(grain, &answer);
+        end_of_asking(&answer)
     }
 
     // Begins a turn of the grain whose permit the worker has.
@@ -270,7 +271,8 @@ impl<G: Gate, H: QueueHistory, D: DirectoryHistory> Worker<G, H, D> {
         if let Heard::Turn { .. } = answer {
             self.doorbell.begin_handling(self.silo);
         }
-        self.walk.after_begin(grain, permit, &answer)
+        self.walk.after_begin(grain, permit, &answer);
+        answer.end()
     }
 
     // Commits the turn, all of whose events were handled.
@@ -302,7 +304,8 @@ impl<G: Gate, H: QueueHistory, D: DirectoryHistory> Worker<G, H, D> {
             op,
             &mut self.events,
         );
-        self.walk.after_commit(grain, permit, &answer)
+        self.walk.after_commit(grain, permit, &answer);
+        answer.end()
     }
 
     // Gives the permit back.
@@ -369,7 +372,8 @@ impl<G: Gate, H: QueueHistory, D: DirectoryHistory> Worker<G, H, D> {
         );
         self.doorbell
             .looked(self.silo, at, matches!(answer, Heard::Next(_)));
-        self.walk.after_again(grain, permit, &answer)
+        self.walk.after_again(grain, permit, &answer);
+        answer.end()
     }
 
     // Has the gate be told of a commit, as soon as no turn is kept.

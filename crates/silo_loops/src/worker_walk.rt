@@ -1,6 +1,6 @@
 //! Where a worker is, and what it does next.
 ghost use Rattle.std.specs.Prelude.{◌≡◌, ◌<◌, ◌⊎◌, true, false, None, IfSome};
-ghost use Rattle.silo_loops.specs.Answers.{end_in, end_of_asking};
+ghost use Rattle.silo_loops.specs.Answers.{end_of_asking};
 ghost use Rattle.silo_loops.specs.declared.worker_walk.Step.TheVariants as step;
 ghost use Rattle.silo_loops.specs.Walks.{IsFree, step_after_begin, step_after_commit, step_after_enter};
 
@@ -149,17 +149,15 @@ impl Walk {
 
     // After the answer to Ready. Grains are named in their order, so one that isn't past the last was named
     // before.
-    pub(crate) fn after_look(&mut self, queues: usize, answer: &Heard) -> Option<Over>
+    pub(crate) fn after_look(&mut self, queues: usize, answer: &Heard)
         requires { self.old.at < queues }
         ensures at { self.new.at < queues }
         ensures free { IsFree self.new.step }
-        ensures over { result ≡ end_in answer.now }
     {
         match *answer {
             Heard::Next(ref grain) if self.is_new(grain) => self.enter(grain),
             _ => self.go_on(queues),
         }
-        answer.end()
     }
 
     /// The queue that its next step calls, where it calls one.
@@ -193,32 +191,20 @@ impl Walk {
     }
 
     // After the answer to Enter. A grain that another has is passed over.
-    pub(crate) fn after_enter(
-        &mut self,
-        grain: &GrainId,
-        answer: &Result<DirectoryReply, Refusal>,
-    ) -> Option<Over>
+    pub(crate) fn after_enter(&mut self, grain: &GrainId, answer: &Result<DirectoryReply, Refusal>)
         ensures at { self.new.at ≡ self.old.at }
         ensures step { self.new.step ≡ step_after_enter grain.now answer.now }
-        ensures over { result ≡ end_of_asking answer.now }
     {
         self.step = match *answer {
             Ok(DirectoryReply::Entered { permit }) => Step::Begin(*grain, permit),
             _ => Step::Look,
         };
-        end_of_asking(answer)
     }
 
     // After the answer to Begin.
-    pub(crate) fn after_begin(
-        &mut self,
-        grain: &GrainId,
-        permit: u64,
-        answer: &Heard,
-    ) -> Option<Over>
+    pub(crate) fn after_begin(&mut self, grain: &GrainId, permit: u64, answer: &Heard)
         ensures at { self.new.at ≡ self.old.at }
         ensures step { self.new.step ≡ step_after_begin grain.now permit answer.now }
-        ensures over { result ≡ end_in answer.now }
     {
         if answer.is_change() {
             self.changed = true;
@@ -242,38 +228,24 @@ impl Walk {
             ),
             _ => Step::Leave(*grain, permit),
         };
-        answer.end()
     }
 
     // After the answer to Commit.
-    pub(crate) fn after_commit(
-        &mut self,
-        grain: &GrainId,
-        permit: u64,
-        answer: &Heard,
-    ) -> Option<Over>
+    pub(crate) fn after_commit(&mut self, grain: &GrainId, permit: u64, answer: &Heard)
         ensures at { self.new.at ≡ self.old.at }
         ensures step { self.new.step ≡ step_after_commit grain.now permit answer.now }
-        ensures over { result ≡ end_in answer.now }
     {
         self.step = match *answer {
             Heard::Committed(sub, token) => Step::Tell(*grain, permit, sub, token),
             _ => Step::Leave(*grain, permit),
         };
-        answer.end()
     }
 
     // After the answer to Ready that was asked with the permit of a grain. Another turn of it is begun where it is the
     // next one, and else its permit is given back. A grain past it comes then.
-    pub(crate) fn after_again(
-        &mut self,
-        grain: &GrainId,
-        permit: u64,
-        answer: &Heard,
-    ) -> Option<Over>
+    pub(crate) fn after_again(&mut self, grain: &GrainId, permit: u64, answer: &Heard)
         ensures at { self.new.at ≡ self.old.at }
         ensures step { (self.new.step ≡ step.Begin grain.now permit) ⊎ (self.new.step ≡ step.Leave grain.now permit) }
-        ensures over { result ≡ end_in answer.now }
     {
         self.step = match *answer {
             Heard::Next(ref next) if next == grain && self.again > 0 => {
@@ -286,7 +258,6 @@ impl Walk {
             Heard::Next(ref next) if self.is_new(next) => Some(*next),
             _ => None,
         };
-        answer.end()
     }
 
     // After the permit was given back: on to the grain that was found, or to look for one.

@@ -10,4 +10,4 @@ invariant_of-self g c =
     (again-at c.self.view_is c.after_again.new.self.at c.after_again.new.self.step c.requires c.self.invariant.0 c.hear_at-answer.ensures.heard c.after_again.ensures.at c.after_again.ensures.step, omega (arith, c.hear_at-answer.ensures.room, c.self.invariant.1))
 
 pub returns : goal.returns
-returns g c = asked-again c.self.view_is c.after_again.new.self.at c.after_again.new.self.step c.requires c.hear_at-answer.ensures.heard c.after_again.ensures.over c.after_again.ensures.step
+returns g c = asked-again c.self.view_is c.after_again.new.self.at c.after_again.new.self.step c.requires c.hear_at-answer.ensures.heard c.end.ensures c.after_again.ensures.step

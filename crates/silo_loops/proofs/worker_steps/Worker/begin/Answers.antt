@@ -10,4 +10,4 @@ invariant_of-self g c =
     (begun-at c.self.view_is c.after_begin.new.self.at c.after_begin.new.self.step c.requires c.self.invariant.0 c.hear_at-answer.ensures.heard c.after_begin.ensures.at c.after_begin.ensures.step, omega (arith, c.hear_at-answer.ensures.room, c.self.invariant.1))
 
 pub returns : goal.returns
-returns g c = begun c.self.view_is c.after_begin.new.self.at c.after_begin.new.self.step c.requires c.self.invariant.0 c.self.invariant.1 c.hear_at-answer.ensures.heard c.after_begin.ensures.at c.after_begin.ensures.step c.after_begin.ensures.over
+returns g c = begun c.self.view_is c.after_begin.new.self.at c.after_begin.new.self.step c.requires c.self.invariant.0 c.self.invariant.1 c.hear_at-answer.ensures.heard c.after_begin.ensures.at c.after_begin.ensures.step c.end.ensures

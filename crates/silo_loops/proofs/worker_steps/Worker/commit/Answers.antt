@@ -10,4 +10,4 @@ invariant_of-self g c =
     (committed-at c.self.view_is c.after_commit.new.self.at c.after_commit.new.self.step c.requires.step c.self.invariant.0 c.hear_at-answer.ensures.heard c.after_commit.ensures.at c.after_commit.ensures.step, omega (arith, c.hear_at-answer.ensures.room, c.self.invariant.1))
 
 pub returns : goal.returns
-returns g c = committed c.self.view_is c.after_commit.new.self.at c.after_commit.new.self.step c.requires.step c.requires.handled c.self.invariant.0 c.hear_at-answer.ensures.heard c.after_commit.ensures.at c.after_commit.ensures.step c.after_commit.ensures.over
+returns g c = committed c.self.view_is c.after_commit.new.self.at c.after_commit.new.self.step c.requires.step c.requires.handled c.self.invariant.0 c.hear_at-answer.ensures.heard c.after_commit.ensures.at c.after_commit.ensures.step c.end.ensures
