@@ -442,9 +442,8 @@ impl Bell {
     /// Tells whom what was heard meanwhile concerns, and waits no more.
     pub(crate) fn leave<R: Wait>(&mut self, rt: &R, doorbell: &Doorbell, queue: usize) {
         self.keeps = false;
-        let news = self.news;
+        doorbell.spread(rt, queue, self.news);
         self.news = News::NONE;
-        doorbell.spread(rt, queue, news);
     }
 }
 
