@@ -1,5 +1,5 @@
 -- What a line keeps over a call, a rest, a split and a join.
-use Rattle.silo_loops.proofs.Prelude.{DirectoryReply, IsOfEmpty, LeavesLegal, TellsOneHistory, after, replied, ◌≡◌, ◌↔◌, ℕ, ◌≤◌, ◌+◌, Bool, true, false, ◌||◌, List, [], ◌++◌, length, Result, Ok, Err, OnOk, OnErr, refl, sym, ap, subst, ◌∙◌, arith, false≢true, append-nil, length-append, Reply, Op, Agree, HasOnlyMade, IsOf, joined_pass, numbers_of, Foreign, Origin, Entry, Refusal}
+use Rattle.silo_loops.proofs.Prelude.{DirectoryReply, IsOfEmpty, LeavesLegal, TellsOneHistory, after, replied, ◌≡◌, ◌↔◌, ℕ, ◌≤◌, Bool, true, false, ◌||◌, List, [], ◌++◌, length, Result, Ok, Err, OnOk, OnErr, refl, sym, ap, subst, ◌∙◌, arith, false≢true, append-nil, length-append, Reply, Op, Agree, HasOnlyMade, IsOf, joined_pass, numbers_of, Foreign, Origin, Entry, Refusal}
 use Rattle.activation_directory.specs.declared.op.DirectoryOp.{DirectoryOp}
 use Rattle.activation_directory.specs.Plain.{PlainDirectory}
 use Rattle.shared_partition.specs.Directories as directory
@@ -11,9 +11,7 @@ use Rattle.silo_loops.proofs.Owning.{calls-number, owns-called, owns-foreign, ow
 use Rattle.silo_loops.proofs.Taking.{called-alone}
 
 longer-seen : (mark : ℕ) (p q : QueuePass) (more : List (Entry Op Reply)) → q.seen ≡ p.seen ++ more → mark ≤ length p.seen → mark ≤ length q.seen
-longer-seen mark p q more seen below =
-    let long : length q.seen ≡ length p.seen + length more = ap (λ es. length es) seen ∙ length-append p.seen more in
-    omega arith
+longer-seen mark p q more seen below = omega (arith, ap length seen, length-append p.seen more)
 
 -- a flag that tells whether the pass has made such a call past the mark, over a call that was answered
 flag-told : (test : Op → Bool) (flag picked : Bool) (mark : ℕ) (p q : QueuePass) (op : Op) (r : Reply) → picked ≡ test op → CallsBy replied after p op (Ok r) q → mark ≤ length p.seen → (flag ≡ true) ↔ HasOwnPast test mark p
