@@ -14,8 +14,7 @@ module _ {A B : Type 0} (R : A → B → Type 0) where
   front-last (x ∷ xs) [] d y all = (omega arith, all.0, tt)
   front-last (x ∷ xs) (z ∷ zs) d y all =
       let last = front-last xs zs d y all.1 in
-      let less : length zs < length xs = last.0 in
-      (omega arith, last.1, (all.0, last.2))
+      (omega (arith, last.0), last.1, (all.0, last.2))
 
   -- the one behind them may be another
   pub front-set : (xs : List A) (ys : List B) (x : A) → AllZipFront R xs ys → AllZipFront R (set xs (length ys) x) ys

@@ -137,8 +137,7 @@ split-marked _ _ all = absurd all
 pub join-next : (ls ms rest : List LineView) (at : ℕ) (l m : LineView) → ms ≡ rest ++ m ∷ [] → at ≡ length rest → AllZipFront AreAlike ls ms → (at < length ls) × (l ≡ get_or ls at l → AreAlike l m)
 join-next ls ms rest at l m is here all =
     let last = front-last AreAlike ls rest l m (subst (λ (es : List LineView). AllZipFront AreAlike ls es) is all) in
-    let less : length rest < length ls = last.0 in
-    (omega arith, λ read. last.1 ∙ ap (λ (w : LineView). w.pass.turnstile) (ap (λ n. get_or ls n l) (sym here) ∙ sym read))
+    (omega (arith, last.0), λ read. last.1 ∙ ap (λ (w : LineView). w.pass.turnstile) (ap (λ n. get_or ls n l) (sym here) ∙ sym read))
 
 -- the last one is joined first
 joined-last : (ls ms : List LineView) (d m : LineView) → length ms < length ls → joined_lines ls (ms ++ m ∷ []) ≡ joined_lines (set ls (length ms) (joined_line (get_or ls (length ms) d) m)) ms
@@ -170,9 +169,7 @@ refused-on old now fresh at l m within same read made put =
     (goes-set old at l m within (subst (λ (v : LineView). LineGoesOn v m) (read ∙ ap (λ (es : List LineView). get_or es at l) same) goes))
 
 pub splits-all : (old made : List LineView) (at : ℕ) → length old ≤ at → length made ≡ at → AllZipFront IsSplitLine old made → AllZip IsSplitLine old made
-splits-all old made at past long front =
-    let fits = front-fits IsSplitLine old made front in
-    front-all IsSplitLine old made (omega (arith, fits)) front
+splits-all old made at past long front = front-all IsSplitLine old made (omega (arith, front-fits IsSplitLine old made front)) front
 
 -- lines that were split off these are at their turnstiles, and stay there
 pub split-at : (old own new : List LineView) → AllZip IsSplitLine old own → GoOn old new → places own ≡ places new
