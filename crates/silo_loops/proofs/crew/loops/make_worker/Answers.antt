@@ -20,9 +20,8 @@ pub returns-in-Ok-clause-fresh : goal.returns-in-Ok-clause-fresh
 returns-in-Ok-clause-fresh g c =
     let split = c.in_ok-own.ensures.new in
     let directory = ap (λ w. w.turnstile) c.in-Ok.ensures.new.0 in
-    let kept = c.split.ensures.turnstile in
     subst (λ (w : WorkerView). IsFreshWorker c.args.tools.now.rounds c.args.silo w × IsWorkerAt c.split_lines.new.lines.items c.split.new.self w) (sym c.new-in-Ok.ensures)
-    ((refl, split-marked _ _ split, refl, refl, refl), (split-at _ _ _ split c.split_lines.ensures.go_on, directory ∙ sym kept))
+    ((refl, split-marked _ _ split, refl, refl, refl), (split-at _ _ _ split c.split_lines.ensures.go_on, directory ∙ sym c.split.ensures.turnstile))
 
 pub returns-in_err-kit-clause-directory : goal.returns-in_err-kit-clause-directory
 returns-in_err-kit-clause-directory g c = silent-refl c.args.directory.now

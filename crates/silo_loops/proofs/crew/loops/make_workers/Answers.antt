@@ -13,8 +13,7 @@ returns-in-Ok-clause-go_on g c = goes-trans _ _ _ c.make_worker.ensures.go_on c.
 
 pub returns-in-Ok-clause-first : goal.returns-in-Ok-clause-first
 returns-in-Ok-clause-first g c =
-    let fresh = c.in_ok-first.ensures.fresh in
-    (fresh.0, worker-still _ _ _ _ c.in_ok-first.first fresh.1 c.make_worker-2.ensures.go_on c.make_worker-2.ensures.directory)
+    (c.in_ok-first.ensures.fresh.0, worker-still _ _ _ _ c.in_ok-first.first c.in_ok-first.ensures.fresh.1 c.make_worker-2.ensures.go_on c.make_worker-2.ensures.directory)
 
 pub returns-in-Err-clause-go_on : goal.returns-in-Err-clause-go_on
 returns-in-Err-clause-go_on g c = goes-trans _ _ _ (goes-trans _ _ _ c.make_worker.ensures.go_on c.make_worker-2.ensures.go_on) c.join_worker.ensures.go_on
@@ -26,10 +25,7 @@ pub returns-in-Ok-clause-directory : goal.returns-in-Ok-clause-directory
 returns-in-Ok-clause-directory g c = silent-trans _ _ _ c.make_worker.ensures.directory c.make_worker-2.ensures.directory
 
 pub returns-in-Ok-clause-same : goal.returns-in-Ok-clause-same
-returns-in-Ok-clause-same g c =
-    let first = c.in_ok-first.ensures.same in
-    let second = c.in-Ok.ensures.same in
-    (second.0 ∙ first.0, second.1 ∙ first.1)
+returns-in-Ok-clause-same g c = (c.in-Ok.ensures.same.0 ∙ c.in_ok-first.ensures.same.0, c.in-Ok.ensures.same.1 ∙ c.in_ok-first.ensures.same.1)
 
 pub returns-in-Ok-clause-split : goal.returns-in-Ok-clause-split
 returns-in-Ok-clause-split g c = (c.in_ok-first.ensures.split, split-same _ _ _ _ c.in-Ok.second c.in_ok-first.ensures.same c.in-Ok.ensures.split)

@@ -32,15 +32,12 @@ pub returns-in-Err-clause-directory : goal.returns-in-Err-clause-directory
 returns-in-Err-clause-directory g c = silent-trans _ _ _ (silent-trans _ _ _ c.make_workers.ensures.directory c.join_worker.ensures.directory) c.join_worker-in-Err.ensures.directory
 
 pub returns-in-Ok-clause-same : goal.returns-in-Ok-clause-same
-returns-in-Ok-clause-same g c =
-    let workers = c.in_ok-first.ensures.same in
-    (c.in-Ok.ensures.same ∙ workers.0, workers.1)
+returns-in-Ok-clause-same g c = (c.in-Ok.ensures.same ∙ c.in_ok-first.ensures.same.0, c.in_ok-first.ensures.same.1)
 
 pub returns-in-Ok-clause-split : goal.returns-in-Ok-clause-split
 returns-in-Ok-clause-split g c =
-    let workers = c.in_ok-first.ensures.split in
     record {
       agent = subst (λ (ls : List LineView). AllZip IsSplitLine ls c.in-Ok.agent.lines) c.in_ok-first.ensures.same.0 c.in-Ok.ensures.split;
-      first = workers.0;
-      second = workers.1;
+      first = c.in_ok-first.ensures.split.0;
+      second = c.in_ok-first.ensures.split.1;
     }
