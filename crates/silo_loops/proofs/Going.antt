@@ -164,9 +164,8 @@ refused-alike old now fresh made at m same here all put =
 
 pub refused-on : (old now fresh : List LineView) (at : ℕ) (l m : LineView) → at < length old → now ≡ old → l ≡ get_or now at l → HasOnlyMade l.pass m.pass → fresh ≡ set now at m → GoOn old fresh
 refused-on old now fresh at l m within same read made put =
-    let goes = (silent-made l.pass m.pass made).on in
     subst (λ (es : List LineView). GoOn old es) (sym (put ∙ ap (λ (es : List LineView). set es at m) same))
-    (goes-set old at l m within (subst (λ (v : LineView). LineGoesOn v m) (read ∙ ap (λ (es : List LineView). get_or es at l) same) goes))
+    (goes-set old at l m within (subst (λ (v : LineView). LineGoesOn v m) (read ∙ ap (λ (es : List LineView). get_or es at l) same) (silent-made l.pass m.pass made).on))
 
 pub splits-all : (old made : List LineView) (at : ℕ) → length old ≤ at → length made ≡ at → AllZipFront IsSplitLine old made → AllZip IsSplitLine old made
 splits-all old made at past long front = front-all IsSplitLine old made (omega (arith, front-fits IsSplitLine old made front)) front
