@@ -7,7 +7,7 @@ use Rattle.step_core.specs.declared.draining.Stop.TheVariants as stop
 use Rattle.stream_model.specs.Replies.{Reply}
 use Rattle.stream_model.specs.declared.reply.Reply.TheVariants as reply
 use Rattle.stream_model.specs.Draining as draining
-use Rattle.stream_model.specs.Draining.{AtTooMany, AtSpent, Astray, Progress, acknowledge, after_deliver, and_then, ask, deliver_once_more, last_handled}
+use Rattle.stream_model.specs.Draining.{AtTooMany, AtSpent, Astray, Progress, acknowledge, and_then, deliver_once_more, last_handled}
 use Rattle.stream_ident.specs.declared.ident.SubName.{SubName}
 use Rattle.stream_ident.specs.Words.{IsPrefixOf}
 use Rattle.stream_model.specs.Positions.{sub_at}

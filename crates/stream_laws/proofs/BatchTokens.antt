@@ -1,5 +1,5 @@
 -- The tokens of a log after one more batch.
-use Rattle.stream_laws.proofs.Prelude.{◌≡◌, ◌∙◌, ap, sym, refl, ℕ, zero, suc, ◌+◌, ◌-◌, ◌<◌, ◌≤◌, true, List, [], ◌∷◌, ◌++◌, length, map, get_or, ⊎_elim, arith, cases_lt, get_or-map, get_or_past, get_or_append_left, get_or-append_right, length-append, length-map, batch_token, events_of, token_lt, Event, StreamId, Token, no_event}
+use Rattle.stream_laws.proofs.Prelude.{◌≡◌, ◌∙◌, ap, sym, refl, ℕ, suc, ◌+◌, ◌-◌, ◌<◌, ◌≤◌, true, List, ◌++◌, length, map, get_or, ⊎_elim, arith, cases_lt, get_or-map, get_or_past, get_or_append_left, get_or-append_right, length-append, length-map, batch_token, events_of, token_lt, Event, StreamId, Token, no_event}
 use Rattle.std.proofs.lemmas.Bool.Decides.{nat_tests}
 use Rattle.stream_ident.proofs.TokenLemmas.{token_lt-trans}
 use Rattle.stream_ident.proofs.EventLemmas.{length-events_of, events_of-token}

@@ -1,5 +1,5 @@
 -- Sums over the open subscriptions, and how many deliveries wait.
-use Rattle.stream_laws.proofs.Prelude.{◌≡◌, ℕ, suc, ◌+◌, true, false, List, [], ◌∷◌, ◌++◌, length, fold, Option, Some, None, is_some, if◌then◌else◌, refl, sym, ap, ap₂, subst, arith, ◌∙◌, cond_both, AllByRecursion, flat_map, sub_equality, same_sub-equal, or_else-parts, added, same_grain, same_sub, or_else, value_at, with_value, GrainId, SubName, append-at, Grain, Subscription}
+use Rattle.stream_laws.proofs.Prelude.{◌≡◌, ℕ, suc, ◌+◌, true, false, List, [], ◌∷◌, ◌++◌, length, fold, Option, Some, None, is_some, if◌then◌else◌, refl, sym, ap, ap₂, subst, arith, ◌∙◌, cond_both, AllByRecursion, flat_map, sub_equality, same_sub-equal, or_else-parts, added, same_grain, same_sub, value_at, with_value, GrainId, SubName, append-at, Grain, Subscription}
 use Rattle.std.proofs.Common.{length-append}
 use Rattle.stream_laws.specs.DrainLaws.{sum_open}
 use Rattle.stream_laws.proofs.Unique.{AreUnique, same-swap}

@@ -1,5 +1,5 @@
 -- Grains for which nothing waits, and grains of which no turn runs.
-use Rattle.stream_laws.proofs.Prelude.{◌≡◌, suc, nat_lt, true, false, List, [], ◌∷◌, length, Option, Some, None, is_some, unwrap_or, refl, sym, ap, subst, arith, ◌∙◌, ltb-false, AllByRecursion, grain_equality, same_grain-equal, nil_from_nat_lt, none_from_is_some, same_grain, keys_where, value_at, with_value, GrainId, with_value-at, with_value-other, is_running, is_waiting, grain_at, new_grain, Delivery, Grain, PlainPartition}
+use Rattle.stream_laws.proofs.Prelude.{◌≡◌, true, false, List, [], Option, Some, None, unwrap_or, refl, sym, ap, subst, ◌∙◌, AllByRecursion, grain_equality, same_grain-equal, nil_from_nat_lt, none_from_is_some, same_grain, keys_where, value_at, with_value, GrainId, with_value-at, with_value-other, is_running, is_waiting, grain_at, new_grain, Grain, PlainPartition}
 use Rattle.stream_laws.proofs.KeyLists.{each-entry, entry-found, keys_where-none}
 use Rattle.stream_laws.proofs.Unique.{AreUnique}
 

@@ -1,6 +1,6 @@
 -- A deactivation keeps what holds: what was on its way to the grain is lost, and the cursors of its
 -- subscriptions go back.
-use Rattle.stream_laws.proofs.Prelude.{◌≡◌, Bool, true, false, ◌&&◌, not, [], Some, None, unwrap_or, refl, sym, ap, subst, ◌∙◌, arith, if◌then◌else◌, and_from, cond_both, grain_equality, same_grain-equal, same_grain-refl, same_grain, GrainId, SubName, with_value-at, with_value-other, grain_at, new_grain, running_in, sub_at, waiting_in, deactivated, is_open_of, Deactivate, Grain, PlainPartition, Subscription}
+use Rattle.stream_laws.proofs.Prelude.{◌≡◌, true, false, not, [], Some, None, unwrap_or, refl, sym, ap, subst, ◌∙◌, arith, if◌then◌else◌, and_from, cond_both, grain_equality, same_grain-equal, same_grain-refl, same_grain, GrainId, SubName, with_value-at, with_value-other, grain_at, new_grain, running_in, sub_at, waiting_in, deactivated, is_open_of, Deactivate, Grain, PlainPartition, Subscription}
 use Rattle.stream_model.specs.Turns.{deactivate, deactivate_in}
 use Rattle.stream_laws.proofs.EachChanged.{IsEachRewound, NamesFit-each, NumbersFit-each, UnmadeFit-each, each-carried, each-was, rewound_if, served-lost, served-rewound_where}
 use Rattle.stream_laws.proofs.Invariant.{Fits, GrainsFit, Kept, SubFits, SubsFit, marks_of, running_of, waiting_of}

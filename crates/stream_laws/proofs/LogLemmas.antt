@@ -1,5 +1,5 @@
 -- Events on the log: their marks, their tokens, and stretches of it.
-use Rattle.stream_laws.proofs.Prelude.{◌≡◌, ◌∙◌, ap, sym, refl, ℕ, zero, suc, ◌+◌, ◌-◌, ◌<◌, ◌≤◌, not, Bool, true, false, List, [], ◌∷◌, length, get_or, drop, Some, None, if◌then◌else◌, ⊎_elim, arith, cases_lt, and_right, get_or_past, get_or-take, get_or-drop, length-map, length-drop, is_owed, same_stream, token_lt, first_at, Event, StreamId, Token, between, no_event}
+use Rattle.stream_laws.proofs.Prelude.{◌≡◌, ◌∙◌, ap, sym, ℕ, ◌+◌, ◌-◌, ◌<◌, ◌≤◌, not, true, false, List, length, get_or, drop, Some, None, ⊎_elim, arith, cases_lt, and_right, get_or_past, get_or-take, get_or-drop, length-map, length-drop, is_owed, same_stream, token_lt, first_at, Event, StreamId, Token, between, no_event}
 use Rattle.std.proofs.lemmas.Bool.Decides.{nat_tests}
 use Rattle.std.proofs.lemmas.List.{length-take}
 use Rattle.stream_ident.proofs.FirstLemmas.{first_at-None, first_at-Some}

@@ -1,4 +1,3 @@
-use Rattle.stream_ident.proofs.Prelude.{rules, ◌≡◌, ◌<◌}
 use Rattle.std.proofs.lemmas.Str.{IsUtf8-from_ascii}
 use Rattle.stream_ident.proofs.text.ascii_text.Goals as goal
 

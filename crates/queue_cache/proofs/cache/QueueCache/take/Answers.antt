@@ -1,4 +1,4 @@
-use Rattle.std.proofs.Common.{◌≡◌, ◌+◌, ◌≤◌, ◌∙◌, ap, arith, length, take, length-append, length-take}
+use Rattle.std.proofs.Common.{◌≡◌, ◌+◌, ◌∙◌, ap, arith, length, take, length-append, length-take}
 use Rattle.queue_cache.specs.Cache.{PlainCache}
 use Rattle.queue_cache.proofs.cache.QueueCache.take.Goals as goal
 

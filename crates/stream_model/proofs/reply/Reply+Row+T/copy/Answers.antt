@@ -1,4 +1,4 @@
-use Rattle.stream_model.proofs.Prelude.{◌≡◌, ◌∙◌}
+use Rattle.stream_model.proofs.Prelude.{◌∙◌}
 use Rattle.stream_model.proofs.Retyping.{with-same}
 use Rattle.stream_model.proofs.reply.Reply+Row+T.copy.Goals as goal
 
