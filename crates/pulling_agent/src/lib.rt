@@ -11,4 +11,5 @@ mod subscriptions;
 mod told;
 
 pub use agent::{Agent, Plan, StaleAgent};
+pub use subscriptions::next_event;
 pub use told::{Acked, Retried, Sought};

@@ -71,8 +71,10 @@ impl Agent {
     }
 }
 
-/// The next event of a cache that a subscription is owed, whoever asks.
-fn next_event(
+/// The next event of a cache that the subscription to a stream is owed, whoever asks. Where the cache has nothing more for
+/// it, its cursor goes to the end of the cache, and its resume too unless something is outstanding. The tag is that of the
+/// stream. It takes no memory.
+pub fn next_event(
     state: &mut SubState,
     cache: &QueueCache,
     stream: &StreamId,

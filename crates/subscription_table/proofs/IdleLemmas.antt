@@ -2,8 +2,7 @@
 use Rattle.subscription_table.proofs.Prelude.{caught_up, is_unacknowledged, SubState, PlainCache, high, first_at_most, is_at_most, due_from, keys_by_rank, leaf_with, no_leaf, open_leaf, with_leaf, with_leaves, PlainResumes, due_key, Leaf, ◌≡◌, ◌∙◌, ℕ, zero, suc, max, ◌+◌, ◌-◌, ◌^◌, ◌<◌, ◌≤◌, Bool, true, false, List, length, get_or, drop, Option, Some, None, nat_lt, refl, sym, ap, ap₂, subst, arith, ◌||◌, ◌&&◌, le-ltb, lt-ltb, or_right, get_or-drop, get_or_read, length-drop, length-map, option_map, slice_index, or_else, past, StreamId}
 use Rattle.std.proofs.Common.{is_some}
 use Rattle.stream_ident.proofs.FirstLemmas.{first_at-there}
-use Rattle.cache_cursor.specs.Cursor.{next_in}
-use Rattle.subscription_table.specs.Idle.{CatchUp, CatchUpAt, CatchesUp, IsBetween, IsIdle, IsNextDue}
+use Rattle.subscription_table.specs.Idle.{CatchUp, CatchUpAt, CatchesUp, IsIdle, IsNextDue}
 use Rattle.subscription_table.specs.Leaves.{resumes_below}
 use Rattle.subscription_table.specs.LeavesOf.{open_resume}
 use Rattle.subscription_table.specs.Standing.{kept_of, IsTable}
@@ -12,19 +11,6 @@ use Rattle.subscription_table.proofs.Answering.{due_is}
 use Rattle.subscription_table.proofs.LookLemmas.{due-found, due_key-at, leaf-within, past-rank}
 use Rattle.subscription_table.proofs.StateLemmas.{fits-caught_up}
 use Rattle.subscription_table.proofs.TableLemmas.{Fits, refreshed}
-
--- where its cursor stands between a position that the cache has and its end
-pub idle-between : (cache : PlainCache) (s : SubState) (stream : StreamId) (from : ℕ) → cache.low ≤ from → IsBetween s from (high cache) → next_in cache s.cursor stream s.start ≡ None → IsIdle cache s stream
-idle-between cache s stream from low between none = record {
-  between = record {
-    is_open = between.is_open;
-    due = between.due;
-    reached = omega (arith, between.reached);
-    behind = between.behind;
-    handled = between.handled;
-  };
-  none = none;
-}
 
 -- a state after it
 abbrev pub now_of : PlainCache → SubState → SubState

@@ -1,5 +1,5 @@
 -- What each call leaves of one state.
-use Rattle.subscription_table.proofs.Prelude.{acknowledged, advanced, caught_up, committed, rewound, SubState, ack, ack_at, handled_at, next_at, next_event, retry, PlainCache, high, ◌≡◌, ℕ, max, ◌+◌, ◌^◌, ◌<◌, ◌≤◌, ◌==◌, Bool, true, false, not, List, [], ◌∷◌, length, Option, Some, None, if◌then◌else◌, refl, ap, sym, subst, arith, All, Result, Ok, Err, StreamId, Token}
+use Rattle.subscription_table.proofs.Prelude.{acknowledged, advanced, caught_up, committed, rewound, SubState, ack, ack_at, handled_at, next_at, next_event, retry, PlainCache, high, ◌≡◌, ◌∙◌, ℕ, max, ◌+◌, ◌^◌, ◌<◌, ◌≤◌, ◌==◌, Bool, true, false, not, List, [], ◌∷◌, length, Option, Some, None, if◌then◌else◌, refl, ap, sym, subst, arith, All, Result, Ok, Err, StreamId, Token}
 use Rattle.std.proofs.lemmas.List.Elements.{All-filter, All-head}
 use Rattle.stream_ident.specs.Token.{same_token}
 use Rattle.partition_queue.specs.Queue.{PlainQueue, token_at}
@@ -78,6 +78,16 @@ module _ (s : SubState) (stands : Fits s s) where
       asked-either s ack_told.Closed (ack_at s (handled_at s.handled queue token)) (Fits s) stands
       (fits-handled (handled_at s.handled queue token) (All-filter (λ position. same_token (token_at queue position) token) (λ position. position + 3 < 2 ^ 64) s.handled below))
       (not s.live)
+
+-- an event was handled, and the next one sought
+pub fits-handled_once : (s handled new : SubState) → Fits s s → (position note : ℕ) → position + 3 < 2 ^ 64 → (cache : PlainCache) (stream : StreamId) (told : Sought) → high cache + 2 < 2 ^ 64
+    → handled ≡ advanced position (committed (position ∷ []) note s) → ◌≡◌ {A = SubState × Sought} (new, told) (next_event cache handled stream false) → Fits s new
+fits-handled_once s handled new stands position note room cache stream told end is found =
+    let after = advanced position (committed (position ∷ []) note s) in
+    let here : Fits after after = record { start = refl; openness = refl; cursor = omega arith; resume = stands.resume } in
+    let fits = fits-sought after here cache stream false end in
+    let left : new ≡ (next_event cache after stream false).0 = ap (λ (r : SubState × Sought). r.0) found ∙ ap (λ (s : SubState). (next_event cache s stream false).0) is in
+    subst (Fits s) (sym left) (record { start = fits.start; openness = fits.openness; cursor = fits.cursor; resume = fits.resume })
 
 -- a retry leaves the leaf
 pub kept-retried : (s : SubState) → kept_of (retry s).0 ≡ kept_of s

@@ -1,6 +1,6 @@
 //! The calls that change subscriptions: they make and close them, commit to them, and move them over the
 //! log.
-ghost use Rattle.std.specs.Prelude.{◌≡◌, ◌+◌, ◌^◌, ◌<◌, ◌≤◌, true, length, is_ok, is_some, OnErr, All, if◌then◌else◌, IfOk};
+ghost use Rattle.std.specs.Prelude.{◌≡◌, ◌+◌, ◌^◌, ◌<◌, ◌≤◌, [], ◌∷◌, true, false, length, is_ok, is_some, OnErr, All, if◌then◌else◌, IfOk};
 ghost use Rattle.stream_ident.specs.declared.limits.TheConstants.{MOST_EVENTS, PULL_EVENTS};
 ghost use Rattle.stream_ident.specs.Words.{past, Performs};
 ghost use Rattle.queue_cache.specs.Cache.{high};
@@ -17,7 +17,8 @@ use super::{
 use consumer_grain::SubState;
 use partition_queue::{PartitionQueue, Span};
 use pubsub_registry::{Added, Closing, Implied, RuleAdded};
-use pulling_agent::{Acked, Agent, Retried, Sought, StaleAgent};
+use pulling_agent::{Acked, Agent, Retried, Sought, StaleAgent, next_event};
+use queue_cache::QueueCache;
 use std::alloc::{AllocError, Global};
 use stream_ident::{GrainId, Name, Row, StreamId, SubName, Token};
 
@@ -198,6 +199,38 @@ impl SubscriptionTable {
         ensures { self.new ≡ with_state self.old number (advanced position (state_at self.old number)) }
     {
         self.states[number].advance(position);
+    }
+
+    /// An event of a cache is handled, at its position, as `commit` and `advance` say, and the next one that the subscription
+    /// is owed is sought, as `deliver` does where nothing is outstanding.
+    ///
+    /// # Errors
+    /// The call failed to allocate, and nothing has changed.
+    pub fn handle(
+        &mut self,
+        alloc: Global,
+        number: usize,
+        position: usize,
+        note: u64,
+        cache: &QueueCache,
+    ) -> Result<Sought, AllocError>
+        requires within { number < length self.old.registry.names }
+        requires rising { rises_from (past (state_at self.old number).handled) (position ∷ []) ≡ true }
+        requires room { position + 3 < 2 ^ 64 }
+        requires cursor { (state_at self.old number).live ≡ true → cache.now.low ≤ position + 1 }
+        requires high { high cache.now + 2 < 2 ^ 64 }
+        ensures sought { IfOk result (λ told. (self.new, told) ≡ stepped self.old number (next_event cache.now (advanced position (committed (position ∷ []) note (state_at self.old number))) (registration_at self.old number).stream false)) }
+        ensures refused { OnErr result (self.new ≡ self.old) }
+    {
+        self.last = number;
+        let stream = self.registry.stream(number);
+        let tag = self.tags[number];
+        let state = &mut self.states[number];
+        state.commit(alloc, &Row::of(position), note)?;
+        state.advance(position);
+        let sought = next_event(state, cache, stream, tag, false);
+        refresh(&mut self.resumes, number, state);
+        Ok(sought)
     }
 
     /// What a subscription hasn't acknowledged is sought again: its cursor goes back to its resume, where
