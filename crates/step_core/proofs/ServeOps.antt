@@ -3,7 +3,7 @@ use Rattle.step_core.proofs.Prelude.{◌≡◌, ◌∙◌, ap, sym, refl, subst,
 use Rattle.stream_model.specs.Draining as draining
 use Rattle.stream_model.specs.Draining.{serve}
 use Rattle.step_core.specs.DrainPhases.{Ends, after_deliveries}
-use Rattle.step_core.specs.Serving.{cursor_of, grain_of, name_of, names_of, serve_up_to, turned, IsHandledOnce}
+use Rattle.step_core.specs.Serving.{cursor_of, grain_of, name_of, names_of, serve_up_to, turned, IsHandledLast, IsHandledOnce}
 use Rattle.step_core.proofs.DrainLoops.{Suffices}
 use Rattle.step_core.proofs.DrainRounds.{serve-known}
 use Rattle.step_core.proofs.OnceOps.{turn-more, with_value-map}
@@ -29,12 +29,22 @@ serves-first p number most cursor is_cursor is_most = by (sub_at p (name_of p nu
           rest = λ new end ends. subst (Ends p new end) (serve-known p (name_of p number) r most found (is_most ∙ ap (λ n. p.high - n) level)) ends;
         }
 
+-- a turn leaves the names
+kept : (here new : PlainPartition) (number : ℕ) → IsHandledOnce here new (name_of here number) → names_of new ≡ names_of here
+kept here new number handled =
+    let r = handled.record_of in
+    ap names_of handled.is
+    ∙ with_value-map (λ (entry : SubName × Subscription). entry.0) same_sub (name_of here number) r (turned r handled.position) here.subs handled.can.found (λ _. refl)
+
+pub name : (here new : PlainPartition) (number : ℕ) → IsHandledOnce here new (name_of here number) → name_of new number ≡ name_of here number
+name here new number handled = ap (λ names. get_or names number (Explicit 0)) (kept here new number handled)
+
 pub serves-next : (start here new : PlainPartition) (number left more : ℕ) → more ≡ suc left → Serves start here number more → IsHandledOnce here new (name_of here number) → Serves start new number left
 serves-next start here new number left more is_more serves handled = record {
-  long = sym (length-map new.subs (λ (entry : SubName × Subscription). entry.0)) ∙ ap length kept ∙ length-map here.subs (λ (entry : SubName × Subscription). entry.0) ∙ serves.long;
+  long = sym (length-map new.subs (λ (entry : SubName × Subscription). entry.0)) ∙ ap length (kept here new number handled) ∙ length-map here.subs (λ (entry : SubName × Subscription). entry.0) ∙ serves.long;
   now = turned r handled.position;
   found =
-      ap (sub_at new) name
+      ap (sub_at new) (name here new number handled)
       ∙ ap (λ (x : PlainPartition). sub_at x s) handled.is
       ∙ with_value-at same_sub sub_equality s (turned r handled.position) here.subs;
   rest = λ q end ends. serves.rest q end
@@ -42,7 +52,7 @@ serves-next start here new number left more is_more serves handled = record {
       (subst (λ g. Ends here q end (serve_up_to (suc left) s g here)) grain
       (turn-more here s r handled.position handled.activation handled.can left (after_deliveries s) q end
       (subst (λ (x : PlainPartition). Ends x q end (serve_up_to left s r.grain x)) handled.is
-      (subst (λ (x : SubName). Ends new q end (serve_up_to left x r.grain new)) name ends)))));
+      (subst (λ (x : SubName). Ends new q end (serve_up_to left x r.grain new)) (name here new number handled) ends)))));
 }
   where
     s : SubName
@@ -51,16 +61,16 @@ serves-next start here new number left more is_more serves handled = record {
     r : Subscription
     r = handled.record_of
 
-    kept : names_of new ≡ names_of here
-    kept =
-        ap names_of handled.is
-        ∙ with_value-map (λ (entry : SubName × Subscription). entry.0) same_sub s r (turned r handled.position) here.subs handled.can.found (λ _. refl)
-
-    name : name_of new number ≡ s
-    name = ap (λ names. get_or names number (Explicit 0)) kept
-
     grain : r.grain ≡ serves.now.grain
     grain = ap grain_of (same_Some r serves.now (sym handled.can.found ∙ serves.found))
+
+-- one that is caught up then is served
+pub serves-last : (start here new : PlainPartition) (number left more : ℕ) → more ≡ suc left → Serves start here number more → IsHandledLast here new (name_of here number) → Ends start new (Some None) (serve (name_of start number) start (sub_at start (name_of start number)))
+serves-last start here new number left more is_more serves handled =
+    let next = serves-next start here handled.between number left more is_more serves handled.once in
+    next.rest new (Some None)
+    (subst (λ (s : SubName). Ends handled.between new (Some None) (serve_up_to left s next.now.grain handled.between)) (sym (name here handled.between number handled.once))
+    (handled.rest.served left next.now.grain))
 
 -- what is done from here on serves the subscription
 pub serves-rest : (start here mid new : PlainPartition) (number left : ℕ) (end : Option (Option draining.Stop)) → mid ≡ here → Serves start here number left

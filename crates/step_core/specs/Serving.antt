@@ -15,6 +15,8 @@ use Rattle.stream_model.specs.Draining.{Progress, and_then, deliver_up_to, next_
 use Rattle.stream_model.specs.Looks.{is_due}
 use Rattle.stream_model.specs.Positions.{grain_at, is_spent, is_unacknowledged, next_position, running_in, sub_at, waiting_in, with_sub}
 use Rattle.step_core.specs.DrainPhases.{Ends, after_deliveries}
+use Rattle.pulling_agent.specs.declared.told.Sought.{Sought}
+use Rattle.pulling_agent.specs.declared.told.Sought.TheVariants as sought
 
 abbrev pub grain_of : Subscription → GrainId
 grain_of r = r.grain
@@ -60,13 +62,21 @@ pub record CanTurn (p : PlainPartition) (s : SubName) (r : Subscription) (positi
   pub left : is_spent p ≡ false
 
 -- The subscription is open, and this is the next event of the cache that it is owed. It has handled an event, and none from
--- this one on.
-pub record IsFresh (p : PlainPartition) (r : Subscription) (position : ℕ) : Type 0 where
+-- this one on. Its grain rests.
+pub record IsReady (p : PlainPartition) (r : Subscription) (position : ℕ) : Type 0 where
   pub is_open : r.is_open ≡ true
   pub next : next_position p r ≡ Some position
   pub some : 0 < past r.handled
   pub fresh : past r.handled ≤ position
   pub within : position < p.high
+  pub activation : ℕ
+  pub rests : value_at same_grain r.grain p.grains ≡ Some (resting_grain activation)
+
+-- the same of the subscription with a name
+pub record HasNext (p : PlainPartition) (s : SubName) (position : ℕ) : Type 0 where
+  pub record_of : Subscription
+  pub found : sub_at p s ≡ Some record_of
+  pub ready : IsReady p record_of position
 
 -- one more event delivered and handled
 abbrev pub turned : Subscription → ℕ → Subscription
@@ -110,10 +120,17 @@ pub record IsHandledOnce (old new : PlainPartition) (s : SubName) : Type 0 where
   pub can : CanTurn old s record_of position activation
   pub is : new ≡ with_turn old s record_of position
 
--- whether it was, where nothing has changed if it wasn't
-abbrev pub HandlesNext : PlainPartition → PlainPartition → SubName → Bool → Type 0
-HandlesNext old new s true = IsHandledOnce old new s
-HandlesNext old new s false = new ≡ old
+-- and then nothing was left for it in the cache
+pub record IsHandledLast (old new : PlainPartition) (s : SubName) : Type 0 where
+  pub between : PlainPartition
+  pub once : IsHandledOnce old between s
+  pub rest : IsCaughtUp between new s
+
+-- what came of the next event: nothing has changed, another one follows, or nothing is left
+abbrev pub HandlesNext : PlainPartition → PlainPartition → SubName → Option Sought → Type 0
+HandlesNext old new s None = new ≡ old
+HandlesNext old new s (Some (sought.Next next)) = IsHandledOnce old new s × HasNext new s next
+HandlesNext old new s (Some _) = IsHandledLast old new s
 
 -- a delivery of the subscription waits or runs
 abbrev pub is_held : PlainPartition → SubName → Subscription → Bool

@@ -16,6 +16,7 @@ ghost use Rattle.step_core.specs.Serving.{name_of, serve_up_to};
 use crate::outcome::Outcome;
 use crate::partition::Partition;
 use crate::serving::next_note;
+use pulling_agent::Sought;
 use std::alloc::{AllocError, Global};
 use stream_ident::{GrainId, SubName};
 use stream_model::{DrainEnd, Reply};
@@ -164,9 +165,15 @@ fn serve_number(partition: &mut Partition, alloc: Global, number: usize) -> Resu
         (serve (name_of partition.old number) partition.old (sub_at partition.old (name_of partition.old number))) }
 {
     let most = partition.high().saturating_sub(partition.cursor(number));
+    let Some(mut position) = partition.ready_next(number) else {
+        return serve_rest(partition, alloc, number, most);
+    };
     for done in 0..most {
-        if !partition.handle_next(alloc, number) {
-            return serve_rest(partition, alloc, number, most - done);
+        match partition.handle_next(alloc, number, position) {
+            None => return serve_rest(partition, alloc, number, most - done),
+            Some(Sought::Next { position: next }) => position = next,
+            Some(Sought::Nothing) => return Ok(()),
+            Some(Sought::Closed) => return Ok(()),
         }
     }
     serve_rest(partition, alloc, number, 0)

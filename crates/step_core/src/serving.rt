@@ -8,14 +8,13 @@ ghost use Rattle.subscription_table.specs.Table.{name_at, state_at};
 ghost use Rattle.step_core.specs.Assembly.{Agrees, IsAssembled};
 ghost use Rattle.step_core.specs.PlainOf.{plain_of};
 ghost use Rattle.step_core.specs.Records.{record_of};
-ghost use Rattle.step_core.specs.Serving.{is_held, resting_grain, CatchesUp, CatchesUpFrom, HandlesNext, IsFresh};
+ghost use Rattle.step_core.specs.Serving.{is_held, resting_grain, CatchesUp, CatchesUpFrom, HandlesNext, IsReady};
 
 use crate::looking::next_of;
 use crate::parts::Parts;
 use crate::reading::is_spent;
 use pulling_agent::Sought;
 use std::alloc::{AllocError, Global};
-use stream_ident::Row;
 
 /// Serves the subscription with a number to its end where the cache has nothing for it, nothing of it waits or runs, and it
 /// has handled no event past both its cursor and the end of the cache: what it has handled is acknowledged, and its cursor
@@ -81,42 +80,44 @@ fn is_ahead(parts: &Parts, number: usize) -> bool
     state.cursor.max(parts.agent.cache().high()) < state.handled.past()
 }
 
-/// Delivers the next event of the subscription with a number and has a turn of its grain handle it, where the subscription is
-/// open and has handled an event but none from that one on, its grain is active and at rest, and a rise is left. Elsewhere,
-/// and where there is no memory, nothing changes, and the result is false.
-pub(crate) fn handle_next(parts: &mut Parts, alloc: Global, number: usize) -> bool
+/// Delivers the next event of the subscription with a number, which stands at a position, and has a turn of its grain handle
+/// it, where a rise is left. It tells what comes next for the subscription, which is served to its end, as `catch_up` does,
+/// where the cache has nothing more for it. Elsewhere, and where there is no memory, nothing changes, and there is none.
+pub(crate) fn handle_next(
+    parts: &mut Parts,
+    alloc: Global,
+    number: usize,
+    position: usize,
+) -> Option<Sought>
     requires agrees { Agrees parts.old }
     requires number { number < length parts.old.subs.registry.names }
+    requires ready { IsReady (plain_of parts.old) (record_of parts.old number) position }
     ensures assembled { IsAssembled parts.new }
     ensures told { HandlesNext (plain_of parts.old) (plain_of parts.new) (name_at parts.old.subs number) result }
 {
     if is_spent(parts) {
-        return false;
-    }
-    let Some(position) = fresh_next(parts, number) else {
-        return false;
-    };
-    if !rests(parts, number) {
-        return false;
+        return None;
     }
     let note = next_note(parts.subs.state(number).note);
-    match parts.subs.commit(alloc, number, &Row::of(position), note) {
-        Ok(()) => {
-            parts.subs.advance(number, position);
+    match parts
+        .subs
+        .handle(alloc, number, position, note, parts.agent.cache())
+    {
+        Ok(sought) => {
             parts.rises += 1;
             parts.turns += 1;
-            true
+            Some(sought)
         }
-        Err(AllocError) => false,
+        Err(AllocError) => None,
     }
 }
 
-/// The next event of the cache that a subscription is owed, where the subscription is open, has handled an event and has
-/// handled none from that one on.
-fn fresh_next(parts: &Parts, number: usize) -> Option<usize>
+/// The next event of the cache that a subscription is owed, where a turn can handle it at once: the subscription is open, has
+/// handled an event and has handled none from that one on, and its grain is active and at rest.
+pub(crate) fn ready_next(parts: &Parts, number: usize) -> Option<usize>
     requires agrees { Agrees parts.now }
     requires number { number < length parts.now.subs.registry.names }
-    ensures { IfSome result (IsFresh (plain_of parts.now) (record_of parts.now number)) }
+    ensures { IfSome result (IsReady (plain_of parts.now) (record_of parts.now number)) }
 {
     let handled = parts.subs.state(number).handled.past();
     if handled == 0 {
@@ -124,6 +125,9 @@ fn fresh_next(parts: &Parts, number: usize) -> Option<usize>
     }
     let position = next_of(parts, number)?;
     if position < handled {
+        return None;
+    }
+    if !rests(parts, number) {
         return None;
     }
     Some(position)

@@ -6,15 +6,16 @@ ghost use Rattle.stream_model.specs.declared.op.Op.TheVariants.{Ack, Begin, Comm
 ghost use Rattle.stream_model.specs.Memory.{may_allocate};
 ghost use Rattle.stream_model.specs.Step.{step};
 ghost use Rattle.step_core.specs.Replied.{replied, reply_of, reply_with};
-ghost use Rattle.step_core.specs.Serving.{name_of, CatchesUp, CatchesUpFrom, HandlesNext};
+ghost use Rattle.step_core.specs.Serving.{name_of, CatchesUp, CatchesUpFrom, HandlesNext, HasNext};
 
 use crate::acknowledging::ack;
 use crate::delivering::deliver;
 use crate::outcome::Outcome;
 use crate::partition::Partition;
 use crate::pulling::pull;
-use crate::serving::{catch_up, catch_up_from, handle_next};
+use crate::serving::{catch_up, catch_up_from, handle_next, ready_next};
 use crate::turns::{begin, commit};
+use pulling_agent::Sought;
 use std::alloc::{AllocError, Global};
 use stream_ident::{GrainId, SubName, Token};
 
@@ -70,16 +71,31 @@ impl Partition {
         catch_up_from(&mut self.parts, number)
     }
 
-    /// The next event of the subscription with a number is delivered, and a turn of its grain handles it, where the
-    /// subscription is open and has handled an event but none from that one on, its grain is active and at rest, and a rise is
-    /// left. Elsewhere, and where there is no memory, nothing is done, and the result is false.
-    pub(crate) fn handle_next(&mut self, alloc: Global, number: usize) -> bool
-        requires { number < length self.old.subs }
+    /// The next event of the cache that the subscription with a number is owed, where a turn can handle it at once: the
+    /// subscription is open, has handled an event and has handled none from that one on, and its grain is active and at rest.
+    pub(crate) fn ready_next(&self, number: usize) -> Option<usize>
+        requires { number < length self.now.subs }
+        ensures { IfSome result (HasNext self.now (name_of self.now number)) }
+    {
+        ready_next(&self.parts, number)
+    }
+
+    /// The next event of the subscription with a number is delivered, and a turn of its grain handles it, where a rise is left.
+    /// It tells what comes next for the subscription, which is served to its end, as `catch_up` does, where the cache has
+    /// nothing more for it. Elsewhere, and where there is no memory, nothing is done, and there is none.
+    pub(crate) fn handle_next(
+        &mut self,
+        alloc: Global,
+        number: usize,
+        position: usize,
+    ) -> Option<Sought>
+        requires number { number < length self.old.subs }
+        requires next { HasNext self.old (name_of self.old number) position }
         ensures { HandlesNext self.old self.new (name_of self.old number) result }
     {
-        let is_handled = handle_next(&mut self.parts, alloc, number);
+        let sought = handle_next(&mut self.parts, alloc, number, position);
         let _lengths = (self.parts.subs.len(), self.parts.grains.len());
-        is_handled
+        sought
     }
 
     /// The agent learns that a subscription has handled an event and all that it was owed before.
