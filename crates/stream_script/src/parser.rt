@@ -12,6 +12,7 @@ mod publish;
 pub use command::{Command, EachOp, Fault, FaultKind, Mode, Parsed};
 pub use limits::MOST_SCRIPT_BYTES;
 pub use lines::Lines;
+pub(crate) use lines::is_special;
 pub use parse::parse_line;
 pub(crate) use parse::read_line;
 pub use publish::{Publish, read_publish};

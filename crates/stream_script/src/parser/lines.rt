@@ -222,7 +222,7 @@ fn plain_end(bytes: &[u8]) -> Option<usize>
 }
 
 /// Whether a backslash has to stand in front of this byte in a text.
-fn is_special(byte: u8) -> bool
+pub(crate) fn is_special(byte: u8) -> bool
     ensures { result ≡ is_special byte }
 {
     matches!(byte, b'"' | b'\\')

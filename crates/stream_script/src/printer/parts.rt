@@ -1,11 +1,12 @@
 //! What the texts of replies and of the report are made of: numbers, tokens, names and payloads.
-ghost use Rattle.std.specs.Prelude.{◌++◌, [], ◌∷◌};
+ghost use Rattle.std.specs.Prelude.{◌++◌, ◌∷◌};
 ghost use Rattle.std.specs.Fmt.{decimal};
 ghost use Rattle.stream_ident.specs.Token.{token_text};
 ghost use Rattle.stream_script.specs.Pieces.{Text, spelling, escaped};
 ghost use Rattle.stream_script.specs.Spelling.{stream_text, grain_text, name_text};
 ghost use Rattle.stream_script.specs.Writing.{Writes};
 
+use crate::parser::is_special;
 use itoa::Buffer;
 use std::alloc::AllocError;
 use stream_ident::{GrainId, Name, Payload, StreamId, SubName, Token};
@@ -122,18 +123,13 @@ pub fn push_quoted(payload: &Payload, out: &mut Vec<u8>) -> Result<(), AllocErro
 fn push_escaped(bytes: &[u8], out: &mut Vec<u8>) -> Result<(), AllocError>
     ensures { Writes out.old.items out.new.items result (escaped bytes.now) }
 {
-    for byte in bytes {
-        push_byte(*byte, out)?;
+    let mut from = 0;
+    for (at, byte) in bytes.iter().enumerate() {
+        if is_special(*byte) {
+            push_text(&bytes[from..at], out)?;
+            push_text(b"\\", out)?;
+            from = at;
+        }
     }
-    Ok(())
-}
-
-/// Appends a byte of a text in quotes.
-fn push_byte(byte: u8, out: &mut Vec<u8>) -> Result<(), AllocError>
-    ensures { Writes out.old.items out.new.items result (escaped (byte ∷ [])) }
-{
-    if byte == b'"' || byte == b'\\' {
-        return push_text(&[b'\\', byte], out);
-    }
-    push_text(&[byte], out)
+    push_text(&bytes[from..], out)
 }
