@@ -1,8 +1,8 @@
 //! The calls of a directory, of the balancer of queues, and of the parser of a line.
+use crate::came::{Came, Stop};
 use crate::trying::{Tried, try_call};
 use activation_directory::{Directory, DirectoryOp, DirectoryReply};
 use queue_balancer::{Assignment, RebalanceError, rebalance};
-use refused_calls::{Came, Stop};
 use std::alloc::{AllocError, Global};
 use std::fmt::Debug;
 use stream_ident::{BadName, GrainId};

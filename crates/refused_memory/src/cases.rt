@@ -1,10 +1,12 @@
 //! The cases: the calls that are tried.
 use crate::calls::{Placing, try_balance, try_line, try_placing};
+use crate::came::{Came, Stop};
+use crate::clusters::parked::try_retire;
+use crate::clusters::services::{Change, try_change};
 use crate::partitions::{BLOCKS, STORY, try_drain, try_run, try_step};
 use crate::simulation::try_sim;
 use crate::turnstiles::{try_close, try_enter, try_new, try_split};
-use refused_calls::{Came, Stop};
-use std::sync::Wait;
+use streams::Host;
 
 /// A call that is tried.
 pub(crate) struct Case {
@@ -35,10 +37,14 @@ enum Call {
     Enter(usize, bool),
     Close,
     Sim,
+    /// A call of a service, on a cluster in threads.
+    Service(Change),
+    /// The loops of a silo of a parked cluster are given back.
+    Retire,
 }
 
 /// All cases.
-pub(crate) static CASES: [Case; 32] = [
+pub(crate) static CASES: [Case; 38] = [
     Case {
         name: "publish",
         takes_memory: true,
@@ -230,10 +236,40 @@ pub(crate) static CASES: [Case; 32] = [
         takes_memory: true,
         call: Call::Sim,
     },
+    Case {
+        name: "open_service",
+        takes_memory: true,
+        call: Call::Service(Change::Open),
+    },
+    Case {
+        name: "silo_up",
+        takes_memory: true,
+        call: Call::Service(Change::Up),
+    },
+    Case {
+        name: "silo_down",
+        takes_memory: true,
+        call: Call::Service(Change::Down),
+    },
+    Case {
+        name: "producer",
+        takes_memory: true,
+        call: Call::Service(Change::Producer),
+    },
+    Case {
+        name: "close_service",
+        takes_memory: true,
+        call: Call::Service(Change::Close),
+    },
+    Case {
+        name: "retire",
+        takes_memory: true,
+        call: Call::Retire,
+    },
 ];
 
 /// Tries a call.
-pub(crate) fn try_case<R: AllocGlobal + Wait>(rt: &R, case: &Case) -> Result<Came, Stop> {
+pub(crate) fn try_case<R: Host>(rt: R, case: &Case) -> Result<Came, Stop> {
     let alloc = rt.alloc();
     match case.call {
         Call::Step(front, line, reply) => {
@@ -246,10 +282,12 @@ pub(crate) fn try_case<R: AllocGlobal + Wait>(rt: &R, case: &Case) -> Result<Cam
         Call::Placing(what, reply) => try_placing(alloc, what, reply),
         Call::Balance => try_balance(alloc),
         Call::Line => try_line(alloc),
-        Call::New => try_new(rt, alloc),
-        Call::Split => try_split(rt, alloc),
-        Call::Enter(calls, again) => try_enter(rt, alloc, calls, again),
-        Call::Close => try_close(rt, alloc),
+        Call::New => try_new(&rt, alloc),
+        Call::Split => try_split(&rt, alloc),
+        Call::Enter(calls, again) => try_enter(&rt, alloc, calls, again),
+        Call::Close => try_close(&rt, alloc),
         Call::Sim => try_sim(alloc),
+        Call::Service(change) => try_change(rt, change),
+        Call::Retire => try_retire(&rt, alloc),
     }
 }

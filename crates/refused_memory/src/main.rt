@@ -1,27 +1,29 @@
 //! Tries calls to which memory may be refused. It refuses none itself: that does whoever runs it.
 //!
 //! A word names a case, and another one says what came of it: `done`, nothing was refused; `refused`, memory was refused
-//! to the call, and all was as it has to be; or `setup`, memory was refused to what stands before the call, or behind a
-//! call that was done. Else it says what isn't as it has to be, and the status is 1. Without words all cases are tried,
-//! and each has a line with its name and what came of it. The line of a call that takes no memory says so.
+//! to the call, and all was as it has to be; or `setup`, memory was refused to what stands before the call, behind a call
+//! that was done, or to the loop of a silo. Else it says what isn't as it has to be, and the status is 1. Without words
+//! all cases are tried, and each has a line with its name and what came of it. The line of a call that takes no memory
+//! says so.
 #![tactic(auto)]
 
 mod calls;
+mod came;
 mod cases;
+mod clusters;
 mod partitions;
 mod simulation;
 mod trying;
 mod turnstiles;
 
+use crate::came::Stop;
 use crate::cases::{CASES, try_case};
-use refused_calls::Stop;
 use std::process::ExitCode;
-use std::rt::Runtime;
-use std::sync::Wait;
+use streams::Host;
 
 /// Status 0 where nothing is wrong.
 fn main(rt: HostRuntime) -> ExitCode {
-    let (text, status) = match try_words(&rt) {
+    let (text, status) = match try_words(rt) {
         Ok(()) => return ExitCode::SUCCESS,
         Err(Stop::Memory) => ("setup", ExitCode::SUCCESS),
         Err(Stop::Wrong(wrong)) => (wrong, ExitCode::FAILURE),
@@ -33,8 +35,8 @@ fn main(rt: HostRuntime) -> ExitCode {
 }
 
 /// Tries the case that the command line names, or all.
-fn try_words<R: Runtime + AllocGlobal + Wait>(rt: &R) -> Result<(), Stop> {
-    let words: Vec<String> = std::env::args(rt)?.skip(1).collect(rt.alloc())?;
+fn try_words<R: Host>(rt: R) -> Result<(), Stop> {
+    let words: Vec<String> = std::env::args(&rt)?.skip(1).collect(rt.alloc())?;
     match words.first() {
         Some(name) => try_named(rt, name.as_str()),
         None => try_all(rt),
@@ -42,7 +44,7 @@ fn try_words<R: Runtime + AllocGlobal + Wait>(rt: &R) -> Result<(), Stop> {
 }
 
 /// Tries the case with this name, and prints what came of it.
-fn try_named<R: Print + AllocGlobal + Wait>(rt: &R, name: &str) -> Result<(), Stop> {
+fn try_named<R: Host>(rt: R, name: &str) -> Result<(), Stop> {
     for case in &CASES {
         if case.name == name {
             let word = try_case(rt, case)?.word();
@@ -54,7 +56,7 @@ fn try_named<R: Print + AllocGlobal + Wait>(rt: &R, name: &str) -> Result<(), St
 }
 
 /// Tries each case, and prints its name and what came of it.
-fn try_all<R: Print + AllocGlobal + Wait>(rt: &R) -> Result<(), Stop> {
+fn try_all<R: Host>(rt: R) -> Result<(), Stop> {
     for case in &CASES {
         print!(rt; "{} ", case.name)?;
         let word = try_case(rt, case)?.word();

@@ -1,6 +1,6 @@
 //! The calls of a partition.
+use crate::came::{Came, Stop, check, with_memory};
 use crate::trying::{Tried, try_call};
-use refused_calls::{Came, Stop, check, with_memory};
 use std::alloc::{AllocError, Global};
 use step_core::{DrainEnd, Limits, Op, Partition, Quiet, Reply};
 use stream_script::{Command, Mode, Parsed, parse_line};

@@ -1,5 +1,5 @@
 //! A script that is simulated.
-use refused_calls::{Came, Stop, check, with_memory};
+use crate::came::{Came, Stop, check, with_memory};
 use std::alloc::Global;
 use step_core::Limits;
 use stream_script::{Counted, SimConfig, SimError, sim};

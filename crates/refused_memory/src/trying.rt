@@ -1,5 +1,5 @@
 //! How a call is tried.
-use refused_calls::{Came, Stop, check, with_memory};
+use crate::came::{Came, Stop, check, with_memory};
 use std::alloc::{AllocError, Global};
 
 /// A value, and a call of it.

@@ -2,8 +2,8 @@
 ghost use Rattle.turnstile.specs.Calls.{IsOf};
 
 use crate::calls::grain;
+use crate::came::{Came, Stop, check, with_memory};
 use activation_directory::{DirectoryOp, DirectoryReply};
-use refused_calls::{Came, Stop, check, with_memory};
 use shared_partition::{DirectoryHistory, SharedDirectory};
 use std::alloc::{AllocError, Global};
 use std::sync::Wait;

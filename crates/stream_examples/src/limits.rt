@@ -3,11 +3,13 @@
 //!
 //! No clause can say that memory is there. Here it is, and so a simulation that fails to allocate ends the program with a
 //! fault.
+ghost use Rattle.std.specs.Prelude.{◌≤◌};
+ghost use Rattle.stream_ident.specs.declared.limits.TheConstants.{MOST_BLOCKS, MOST_QUEUES};
 ghost use Rattle.stream_script.specs.Simulation.{IsSimConfig};
 
-use crate::sim_config;
 use anyhow::{Result, ensure};
 use std::alloc::{AllocError, Global};
+use stream_model::Limits;
 use stream_script::{Counted, SimConfig, sim};
 
 /// Simulates each script, and prints how many lines it is answered with.
@@ -40,6 +42,21 @@ pub fn print_all<R: Print>(rt: &R, alloc: Global) -> Result<()> {
         sim_config(64, 1),
         &many_queues(alloc)?,
     )
+}
+
+/// A simulation of so many queues, each with a cache of so many blocks.
+fn sim_config(queues: usize, blocks: usize) -> SimConfig
+    requires some_queues { 1 ≤ queues }
+    requires queues { queues ≤ MOST_QUEUES }
+    requires some_blocks { 1 ≤ blocks }
+    requires blocks { blocks ≤ MOST_BLOCKS }
+    ensures { IsSimConfig result }
+{
+    SimConfig {
+        queues,
+        blocks,
+        limits: Limits::GREATEST,
+    }
 }
 
 /// Ten thousand grains that follow one stream, and two events for each of them.

@@ -6,7 +6,7 @@ ghost use Rattle.silo_loops.specs.Silos.{SiloView};
 ghost use Rattle.silo_loops.specs.Lines.{places};
 ghost use Rattle.silo_threads.specs.Clusters.{RunsOn};
 
-use refused_calls::{Came, Stop, check, with_memory};
+use crate::came::{Came, Stop, check, with_memory};
 use shared_partition::{DirectoryHistory, QueueHistory};
 use std::alloc::{AllocError, Global};
 use std::sync::{Arc, Wait};

@@ -1,6 +1,4 @@
-//! What comes of a call to which memory may be refused: what the programs that try such calls share.
-#![tactic(auto)]
-
+//! What comes of a call to which memory may be refused.
 ghost use Rattle.std.specs.Prelude.{◌≡◌, ◌↔◌, IfOk, IsOk, IsTrue};
 
 use std::alloc::{AllocError, AllocFailed};
@@ -10,7 +8,7 @@ use turnstile::Refusal;
 
 /// What came of a call.
 #[derive(Clone, Copy, Debug, PartialEq, Eq)]
-pub enum Came {
+pub(crate) enum Came {
     /// Nothing was refused.
     Done,
     /// Memory was refused to the call, and all was as it has to be.
@@ -19,7 +17,7 @@ pub enum Came {
 
 impl Came {
     /// The word for it.
-    pub fn word(self) -> &'static str {
+    pub(crate) fn word(self) -> &'static str {
         match self {
             Came::Done => "done",
             Came::Refused => "refused",
@@ -29,7 +27,7 @@ impl Came {
 
 /// Why neither is said.
 #[derive(Debug, Drop)]
-pub enum Stop {
+pub(crate) enum Stop {
     /// Memory was refused to something else than the call.
     Memory,
     /// Something isn't as it has to be.
@@ -40,7 +38,7 @@ pub enum Stop {
 ///
 /// # Errors
 /// It isn't so, which is `Wrong`.
-pub fn check(is_so: bool, wrong: &'static str) -> Result<(), Stop>
+pub(crate) fn check(is_so: bool, wrong: &'static str) -> Result<(), Stop>
     ensures { IsOk result ↔ IsTrue is_so }
 {
     if is_so {
@@ -54,7 +52,7 @@ pub fn check(is_so: bool, wrong: &'static str) -> Result<(), Stop>
 ///
 /// # Errors
 /// Something isn't so, or memory was refused once more.
-pub fn with_memory(found: Result<(), Stop>) -> Result<Came, Stop>
+pub(crate) fn with_memory(found: Result<(), Stop>) -> Result<Came, Stop>
     ensures right { IsOk result ↔ IsOk found }
     ensures came { IfOk result (λ came. came ≡ Came.Refused) }
 {

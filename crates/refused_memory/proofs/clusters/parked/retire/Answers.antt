@@ -1,6 +1,6 @@
 use Rattle.std.proofs.Common.{◌∙◌}
-use Rattle.refused_clusters.proofs.Retiring.{callers-at, first-at, first-lives, others-at, stays-parked}
-use Rattle.refused_clusters.proofs.parked.retire.Goals as goal
+use Rattle.refused_memory.proofs.Retiring.{callers-at, first-at, first-lives, others-at, stays-parked}
+use Rattle.refused_memory.proofs.clusters.parked.retire.Goals as goal
 
 pub retire-retired-requires-clause-at : goal.retire-retired-requires-clause-at
 retire-retired-requires-clause-at g c κs within = first-at c.args.cluster.operator c.args.crew.items c.remove-first.result c.requires.some c.remove-first.ensures.value c.requires.runs

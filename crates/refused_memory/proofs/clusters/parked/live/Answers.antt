@@ -1,7 +1,7 @@
 use Rattle.std.proofs.Common.{List, [], ◌∷◌, ◌++◌, ap, ◌∙◌}
 use Rattle.silo_loops.specs.Lines.{QueuePass}
-use Rattle.refused_clusters.proofs.Retiring.{first-caller, some-silo}
-use Rattle.refused_clusters.proofs.parked.live.Goals as goal
+use Rattle.refused_memory.proofs.Retiring.{first-caller, some-silo}
+use Rattle.refused_memory.proofs.clusters.parked.live.Goals as goal
 
 pub retire-requires-clause-some : goal.retire-requires-clause-some
 retire-requires-clause-some g c =

@@ -1,6 +1,6 @@
 //! The calls of a cluster in threads, as a service makes them. Which of its calls memory is refused to, or which loop of a
 //! silo, is by chance: it ends without a loop that is left, and with a report that is right or without memory.
-use refused_calls::{Came, Stop, check, with_memory};
+use crate::came::{Came, Stop, check, with_memory};
 use std::alloc::{AllocError, Global};
 use std::sync::Arc;
 use streams::{
