@@ -34,7 +34,7 @@ pub record ScriptsGrow : Type 0 where
 abbrev pub HasNoLine : ℕ → List Line → Type 0
 HasNoLine number script = AllByRecursion (λ (line : Line). (number == line.number) ≡ false) script
 
--- A line that is a miss changes nothing of what is told and printed of the others.
+-- That a line is a miss changes nothing of what is told and printed by a script without it.
 pub record MissesChangeNoOther : Type 0 where
   pub told : (missed : List ℕ) (number queue : ℕ) (script : List Line) → HasNoLine number script
       → told (number ∷ missed) queue script ≡ told missed queue script
@@ -99,7 +99,7 @@ is_miss (reply.Miss requested low high) = true
 is_miss _ = false
 
 -- Producers are answered as the script tells after the producers' entries before, as far as it says how. The
--- line is among those that are misses where the reply is a miss. Not said: anything of `QueueFull` and
+-- line is among the misses exactly where its reply is a miss. Not said: anything of `QueueFull` and
 -- `TooMany`.
 abbrev pub RepliesAreTold : Type 0
 RepliesAreTold =

@@ -124,7 +124,7 @@ IsAtSilo before now was is = (now ≢ before → HasMovedLast now was is) × (no
 abbrev pub LineHasOnlySeen : LineView → LineView → Type 0
 LineHasOnlySeen l m = (m.mark ≡ l.mark) × HasOnlySeen l.pass m.pass
 
--- the passes of lines are as before, but may have seen more
+-- the passes of lines are as before, save what they have seen
 abbrev pub HaveOnlySeen : List LineView → List LineView → Type 0
 HaveOnlySeen old new = AllZip LineHasOnlySeen old new
 

@@ -179,7 +179,7 @@ pub record IsUp (v : ClusterView) (silo : ℕ) (w : ClusterView) : Type 0 where
 abbrev pub HasAtMostCome : ℕ → List SiloView → List SiloView → Type 0
 HasAtMostCome silo old new = (new ≡ old) ⊎ ((s : SiloView) × (new ≡ old ++ s ∷ []) × (s.silo ≡ silo))
 
--- when each answer of `silo_up` comes, and what it leaves
+-- when each answer of `silo_up` comes, by the silos that live, and what it leaves
 abbrev pub AnswersUp : ClusterView → ℕ → Result SiloUp AllocError → ClusterView → Type 0
 AnswersUp v silo (Ok up.Halted) w = (is_fixed v ≡ true) × (w ≡ v)
 AnswersUp v silo (Ok up.Already) w = (is_fixed v ≡ false) × Contains v.operator.live silo × (w ≡ v)
@@ -233,8 +233,8 @@ pub record HasNoted (v : ClusterView) (silo : ℕ) (w : ClusterView) : Type 0 wh
   pub come : HaveComeBack w.operator.lines w.operator.directory back
   pub ends : w.ends ≡ noted v.ends back
 
--- when each answer of `silo_down` comes, and what it leaves: the grains of the silo that went are
--- deactivated, and the queues spread
+-- when each answer of `silo_down` comes, by the silos that live, and what it leaves: the grains of the silo
+-- that went are deactivated, and the queues spread
 abbrev pub AnswersDown : ClusterView → ℕ → Result SiloDown AllocError → ClusterView → Type 0
 AnswersDown v silo (Ok down.Halted) w = (is_fixed v ≡ true) × (w ≡ v)
 AnswersDown v silo (Ok down.NotLive) w = (is_fixed v ≡ false) × (¬ Contains v.operator.live silo) × (w ≡ v)
@@ -255,7 +255,7 @@ IsRetired v loops w = (v.is_halted ≡ false) × MayGo v loops.silo × IsDown v 
 abbrev pub IsBrokenOff : ClusterView → SiloView → ClusterView → Type 0
 IsBrokenOff v loops w = (v.is_halted ≡ false) × MayGo v loops.silo × HasHalted v w × AreNoted v loops w
 
--- when each answer of `retire` comes for these loops, and what it leaves
+-- when each answer of `retire` comes for these loops, by the silos that live, and what it leaves
 abbrev pub AnswersRetire : {G H D : Type 0} → ClusterView → SiloView → Result (Retired G H D) AllocError → ClusterView → Type 0
 AnswersRetire v loops (Ok (retired.Halted back)) w = (v.is_halted ≡ true) × (back ≡ loops) × (w ≡ v)
 AnswersRetire v loops (Ok (retired.LastSilo back)) w = (v.is_halted ≡ false) × (v.operator.live ≡ loops.silo ∷ []) × (back ≡ loops) × (w ≡ v)

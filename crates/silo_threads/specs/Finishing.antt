@@ -82,8 +82,8 @@ HasBegun p history = Claims (numbers_of p) p.seen history
 abbrev pub HasSeenFront : QueuePass → List (Entry Op Reply) → Type 0
 HasSeenFront p history = (later : List (Entry Op Reply)) × (history ≡ p.seen ++ later) × CallsAlone p later
 
--- What passes of lines and callers had seen begins the history of its queue, past which no caller has made a
--- call, nor any pass that a line took in.
+-- What each pass of a line and of a caller had seen begins the history of its queue, past which no caller has
+-- made a call, nor any pass that a line took in.
 pub record HaveBegun (lines : List QueuePass) (callers : List (List QueuePass)) (histories : List (List (Entry Op Reply))) : Type 0 where
   pub of_lines : AllZip HasSeenFront lines histories
   pub of_callers : AllByRecursion (λ caller. AllZip HasBegun caller histories) callers

@@ -152,7 +152,7 @@ TellsRule (suc more) queue op so_far old result new =
     ((e : CallError) × Reads read.rule_added old queue op (Err e) new × (result ≡ Err e))
     ⊎ ((added : Bool) × (mid : List QueuePass) × Reads read.rule_added old queue op (Ok added) mid × TellsRule more (suc queue) op (so_far || added) mid result new)
 
--- queues were told a rule in order, until one refused it
+-- queues were told a rule in order, all of them, or up to one that refused it
 abbrev pub AddsRule : List QueuePass → List ℕ → List ℕ → Result Bool CallError → List QueuePass → Type 0
 AddsRule old kind namespace result new = TellsRule (length old) 0 (op.AddRule kind namespace) false old result new
 

@@ -28,7 +28,7 @@ module _ {O R S : Type 0} where
   abbrev pub first_pass : Origin S → PassView O R S
   first_pass t = record { turnstile = Some t; turn = None; number = 0; joined = []; made = 1; seen = [] }
 
-  -- a pass is as before, but may have seen more
+  -- a pass is as before, save what it has seen
   abbrev pub HasOnlySeen : PassView O R S → PassView O R S → Type 0
   HasOnlySeen p q = q ≡ record p { seen = q.seen }
 
@@ -44,7 +44,8 @@ module _ {O R S : Type 0} where
   abbrev pub joined_pass : PassView O R S → PassView O R S → PassView O R S
   joined_pass p q = record p { joined = p.joined ++ numbers_of q; made = max p.made q.made; seen = longer p.seen q.seen }
 
-  -- neither of joined passes missed a call of its own, and no number is in both
+  -- Neither of joined passes missed a call of its own: past what each had seen there is none with its
+  -- numbers. No number is in both.
   abbrev pub Agree : PassView O R S → PassView O R S → PassView O R S → Type 0
   Agree p q r = Claims (numbers_of p) p.seen r.seen × Claims (numbers_of q) q.seen r.seen × ShareNone (numbers_of p) (numbers_of q)
 
@@ -54,11 +55,11 @@ IsFull HistoryFull len limit = len ≡ limit
 IsFull Memory len limit = len < limit
 
 module _ {O R S : Type 0} where
-  -- the pass has seen only calls of others
+  -- past what the pass had seen there are only calls of others
   abbrev pub Waited : PassView O R S → List (Entry O R) → Type 0
   Waited p seen = (between : List (Entry O R)) × (seen ≡ p.seen ++ between) × Foreign (numbers_of p) between
 
-  -- the pass has seen its own call, and nothing between
+  -- past what the pass had seen there is its own call alone
   abbrev pub CalledNext : PassView O R S → O → R → List (Entry O R) → Type 0
   CalledNext p op r seen = seen ≡ p.seen ++ entry p.number op r ∷ []
 
@@ -68,12 +69,13 @@ module _ {O R S : Type 0} where
   FoundNone x p e seen = (seen ≡ p.seen) × IsFull e (length seen) x.limit
 
 module _ {S O R : Type 0} (reply : S → O → R) (after : S → O → S) where
-  -- a pass has seen calls of others and then its own, in one legal history within the limit
+  -- past what a pass had seen there are calls of others and then its own, in one legal history within the
+  -- limit
   abbrev pub Called : Start S → PassView O R S → O → R → List (Entry O R) → Type 0
   Called x p op r seen = (between : List (Entry O R)) × (seen ≡ (p.seen ++ between) ++ entry p.number op r ∷ []) × Foreign (numbers_of p) between × IsLegal reply after x.state seen × (length seen ≤ x.limit)
 
-  -- After a refusal a pass has seen calls of others, and not its own, in one legal history. It has `limit`
-  -- entries where it is full, and else fewer.
+  -- After a refusal there are only calls of others past what a pass had seen, in one legal history. It has
+  -- `limit` entries where it is full, and else fewer.
   abbrev pub Found : Start S → PassView O R S → Refusal → List (Entry O R) → Type 0
   Found x p e seen = (between : List (Entry O R)) × (seen ≡ p.seen ++ between) × Foreign (numbers_of p) between × IsLegal reply after x.state seen × IsFull e (length seen) x.limit
 
@@ -85,7 +87,7 @@ module _ {S O R : Type 0} (reply : S → O → R) (after : S → O → S) where
     pub object : h.state ≡ Some (replay reply after t.start.state p.seen)
     pub bounded : length p.seen ≤ t.start.limit
 
-  -- the object gave this reply and went on
+  -- the object gave this reply, and has the state after the op
   abbrev pub Does : TurnView O R S → O → R → TurnView O R S → Type 0
   Does h op r g = (s : S) × (h.state ≡ Some s) × (r ≡ reply s op) × (g.state ≡ Some (after s op))
 

@@ -22,7 +22,7 @@ module _ {S O R : Type 0} (reply : S → O → R) (after : S → O → S) where
   replay s [] = s
   replay s (e ∷ es) = replay (after s e.op) es
 
-  -- each call has the reply that the object gives
+  -- each call has the reply that the object gives there
   abbrev pub IsLegal : S → List (Entry O R) → Type 0
   IsLegal s [] = Unit {0}
   IsLegal s (e ∷ es) = (e.reply ≡ reply s e.op) × IsLegal (after s e.op) es
