@@ -51,7 +51,7 @@ def commands_of(text):
             command = command_of(line, folder, words)
             if command.words:
                 yield command
-                folder = folder / command.words[1] if command.words[0] == "cd" else folder
+                folder = folder.joinpath(*command.words[1:2]) if command.words[0] == "cd" else folder
 
 
 def spans_of(text):
@@ -171,7 +171,7 @@ def page_mistakes(page):
     for command in [*commands_of(text), *spans_of(text)]:
         yield from ((command.line, mistake) for mistake in mistakes_in(command))
     for above, language, block in blocks(text):
-        if language is None and block.split()[0] in SHELL:
+        if language is None and block.strip() and block.split()[0] in SHELL:
             yield above + 1, "a command outside a block of sh"
     if page.name == "README.md":
         yield from output_mistakes(text)
