@@ -28,8 +28,7 @@ released grain silo count = record { op = Down silo; reply = Released grain coun
 abbrev pub IsFreed : List Entry → GrainId → ℕ → ℕ → Type 0
 IsFreed entries grain silo permit = Contains entries (left grain permit) ⊎ ((count : ℕ) × Contains entries (released grain silo count))
 
--- Between two permits of one grain the first is given back, or the grain is taken from the silo that had
--- it.
+-- Between two permits of a grain, the first is given back or the grain is released from its silo.
 abbrev pub OnePermitAtATime : Type 0
 OnePermitAtATime =
     (permits : ℕ) (before between later : List Entry) (d : PlainDirectory) (grain : GrainId) (silo permit other_silo other_permit : ℕ)
@@ -62,7 +61,7 @@ PermitsAreCounted =
     → Stands permits (before ++ entered grain silo permit ∷ later) d
     → (permit ≡ suc (permits_given before)) × (permit ≤ permits)
 
--- A silo is refused as spent only where as many permits were given as may be.
+-- An Enter is refused as spent only where as many permits were given as may be.
 abbrev pub SpentIsAll : Type 0
 SpentIsAll =
     (permits : ℕ) (before later : List Entry) (d : PlainDirectory) (grain : GrainId) (silo : ℕ)

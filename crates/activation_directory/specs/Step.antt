@@ -41,6 +41,8 @@ abbrev pub down : PlainDirectory → ℕ → Option GrainId → PlainDirectory �
 down d silo None = (d, NoneLeft)
 down d silo (Some grain) = (taken_out d grain, Released grain (count_on silo (without d.placed grain)))
 
+-- What an operation leaves, and its reply. Enter places a grain and gives a permit, Leave gives it back,
+-- Unplace and Down take grains out.
 abbrev pub step : PlainDirectory → DirectoryOp → PlainDirectory × DirectoryReply
 step d (Enter grain silo) = enter d grain silo (place_in d.placed grain)
 step d (Leave grain permit) = leave d grain permit (place_in d.placed grain)
@@ -60,7 +62,7 @@ Leads d entries e = LeadsBy (λ (entry : Entry). entry.op) (λ (entry : Entry). 
 abbrev pub Stands : ℕ → List Entry → PlainDirectory → Type 0
 Stands permits history d = Leads (empty permits) history d
 
--- Only an Enter that places a grain may want memory, and only where it gives a permit.
+-- an Enter that places a grain; only this may want memory, and only where it gives a permit
 abbrev pub takes_memory : PlainDirectory → DirectoryOp → Bool
 takes_memory d (Enter grain silo) = not (is_some (place_in d.placed grain)) && nat_lt d.given d.permits
 takes_memory d _ = false

@@ -49,14 +49,14 @@ woken a delivery =
       subs = with_number delivery.sub a.subs;
     }
 
--- a mailbox has so many places and no more
+-- a delivery is taken, or refused where the mailbox is full
 abbrev pub offered : PlainActivation → Delivery → PlainActivation × Offered
 offered a delivery = if nat_le MAILBOX_PLACES (length a.mailbox) then (a, offer.MailboxFull) else (woken a delivery, offer.Delivered)
 
 abbrev pub is_in : List ℕ → ℕ → Bool
 is_in numbers number = list_any (λ n. n == number) numbers
 
--- Only a delivery that is taken may take memory, and only the first one of its subscription.
+-- A delivery that is taken and is the first of its subscription. Only this may take memory.
 abbrev pub offer_takes_memory : PlainActivation → Delivery → Bool
 offer_takes_memory a delivery = not (nat_le MAILBOX_PLACES (length a.mailbox)) && not (is_in a.subs delivery.sub)
 
@@ -82,7 +82,8 @@ begin_front a past turn size (d ∷ deliveries) =
     if nat_lt d.position past then (record a { mailbox = deliveries }, begun.Dropped d)
     else begin_turn a d.sub (front_of size d.sub d.position a.mailbox) turn
 
--- past is one past the last position that the subscription of the front delivery has handled
+-- How a turn begins with the front deliveries. The number `past` is one past the last position that their
+-- subscription has handled.
 abbrev pub begin : PlainActivation → ℕ → ℕ → ℕ → PlainActivation × Begun
 begin a past turn max_events =
     if is_some a.running then (a, begun.Busy)
@@ -93,7 +94,7 @@ abbrev pub is_front_new : ℕ → List Delivery → Bool
 is_front_new past [] = false
 is_front_new past (d ∷ deliveries) = not (nat_lt d.position past)
 
--- where it would begin a turn
+-- whether a turn would begin
 abbrev pub can_begin : PlainActivation → ℕ → Bool
 can_begin a past = not (is_some a.running) && (a.active && is_front_new past a.mailbox)
 
@@ -117,7 +118,7 @@ commit_turn a (Some run) = (without_turn a, ended.Turn run)
 abbrev pub commit : PlainActivation → ℕ → ℕ → PlainActivation × Ended
 commit a activation turn = commit_turn a (current_turn a activation turn)
 
--- the deliveries of a subscription leave the mailbox; a running turn stays
+-- a subscription's deliveries leave the mailbox; a running turn stays
 abbrev pub forgotten : ℕ → PlainActivation → PlainActivation
 forgotten sub a = record a { mailbox = filter (λ d. not (sub == d.sub)) a.mailbox; subs = without_number sub a.subs }
 
@@ -125,10 +126,11 @@ abbrev pub running_count : Option RunningTurn → ℕ
 running_count None = 0
 running_count (Some run) = length run.positions
 
--- how many deliveries are lost where the grain is deactivated
+-- how many deliveries a deactivation loses
 abbrev pub lost : PlainActivation → ℕ
 lost a = length a.mailbox + running_count a.running
 
+-- nothing waits or runs any more
 abbrev pub deactivated : PlainActivation → PlainActivation
 deactivated a = record a { active = false; mailbox = []; running = None }
 

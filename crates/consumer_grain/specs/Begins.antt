@@ -4,7 +4,7 @@ use Rattle.consumer_grain.specs.Handled.{rises_from}
 use Rattle.consumer_grain.specs.declared.told.Begun.{Begun}
 use Rattle.consumer_grain.specs.declared.told.Begun.TheVariants.{Busy, Empty, Dropped, Turn}
 
--- its positions rise, from this one on
+-- the positions of a turn rise, from a number on
 abbrev pub RisesFrom : ℕ → Begun → Type 0
 RisesFrom past Busy = Unit {0}
 RisesFrom past Empty = Unit {0}

@@ -2,7 +2,7 @@
 use Rattle.std.specs.Prelude.{◌≡◌, ℕ, suc, Bool, true, ◌&&◌, nat_le, List, [], ◌∷◌}
 use Rattle.stream_ident.specs.Words.{past}
 
--- positions that rise, from n on
+-- positions rise, from a number on
 abbrev pub rises_from : ℕ → List ℕ → Bool
 rises_from n [] = true
 rises_from n (position ∷ positions) = nat_le n position && rises_from (suc position) positions

@@ -12,15 +12,15 @@ use Rattle.grain_table.specs.Grains.{PlainGrains}
 abbrev pub no_grain : GrainId × PlainActivation
 no_grain = (record { kind = []; key = [] }, new_activation)
 
--- the grain that has a number
+-- the grain with a number
 abbrev pub grain_at : PlainGrains → ℕ → GrainId
 grain_at grains number = (get_or grains number no_grain).0
 
--- the activation of the grain that has a number
+-- the activation of the grain with a number
 abbrev pub activation_at : PlainGrains → ℕ → PlainActivation
 activation_at grains number = (get_or grains number no_grain).1
 
--- a call did what the definition says to the activation at a number, or memory was wanting and nothing has changed
+-- The activation at a number was `offered` a delivery, or memory was refused and nothing has changed.
 abbrev pub OffersAt : ℕ → PlainGrains → PlainGrains → Result Offered AllocError → Delivery → Type 0
 OffersAt number old new (Ok told) delivery =
     (new ≡ change_at (λ a. (offered a delivery).0) number old) × (told ≡ (offered (activation_at old number) delivery).1)

@@ -14,7 +14,7 @@ PlainGrains = List (GrainId × PlainActivation)
 abbrev pub number_of : PlainGrains → GrainId → Option ℕ
 number_of grains grain = place_of same_grain grain grains
 
--- a grain more, active, with one delivery
+-- one grain more, active, with one delivery
 abbrev pub with_grain : PlainGrains → GrainId → Delivery → PlainGrains
 with_grain grains grain delivery = grains ++ (grain, woken new_activation delivery) ∷ []
 
@@ -30,22 +30,22 @@ is_running a = is_some a.running
 abbrev pub is_ready : PlainActivation → Bool
 is_ready a = is_waiting a && not (is_running a)
 
--- nothing waits for any grain, and no turn runs
+-- nothing waits and no turn runs
 abbrev pub AreIdle : PlainGrains → Type 0
 AreIdle grains = (i : ℕ) (d : GrainId × PlainActivation) → i < length grains → ((get_or grains i d).1.mailbox ≡ []) × ((get_or grains i d).1.running ≡ None)
 
--- the least ready grain after the given one, else the least
+-- The next grain after a given one for which something waits and no turn runs, else the least such.
 abbrev pub ready_after : PlainGrains → Option GrainId → Option GrainId
 ready_after grains after = next_after grain_lt after (keys_where is_ready grains)
 
--- the least grain for which something waits, none where nothing does
+-- the least grain for which a delivery waits, if any
 abbrev pub least_waiting : PlainGrains → Option GrainId
 least_waiting grains = least grain_lt (keys_where is_waiting grains)
 
--- the least grain that a turn runs for, none where none runs
+-- the least grain for which a turn runs, if any
 abbrev pub least_running : PlainGrains → Option GrainId
 least_running grains = least grain_lt (keys_where is_running grains)
 
--- no grain stands under two numbers
+-- no grain has two numbers
 abbrev pub AreDistinct : PlainGrains → Type 0
 AreDistinct grains = (i j : ℕ) (d : GrainId × PlainActivation) → i < length grains → j < length grains → same_grain (get_or grains i d).0 (get_or grains j d).0 ≡ true → i ≡ j

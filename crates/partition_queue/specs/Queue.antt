@@ -15,11 +15,11 @@ pub record PlainQueue : Type 0 where
   pub batches : ℕ
   pub limit : ℕ
 
--- before the first publish
+-- a log before the first publish
 abbrev pub empty : ℕ → PlainQueue
 empty limit = record { events = []; batches = 0; limit = limit }
 
--- the event at a position
+-- the event at a position of a log
 abbrev pub event_at : PlainQueue → ℕ → Event
 event_at q position = get_or q.events position no_event
 
@@ -31,7 +31,7 @@ token_at q position = get_or (map (λ event. event.token) q.events) position (ba
 abbrev pub between : PlainQueue → ℕ → ℕ → List Event
 between q from to = take (to - from) (drop from q.events)
 
--- A batch has some payloads, and not too many.
+-- A batch of 1 to 64 payloads stands at the end, if it fits.
 abbrev pub append : PlainQueue → StreamId → List (List ℕ) → PlainQueue × Appended
 append q stream payloads =
     if (length payloads == 0) || nat_lt BATCH_EVENTS (length payloads) then (q, BadBatch)
@@ -44,12 +44,12 @@ pub record Fits (q : PlainQueue) (count : ℕ) : Type 0 where
   pub few : count ≤ BATCH_EVENTS
   pub room : length q.events + count ≤ q.limit
 
--- Only a batch that is accepted may want memory.
+-- the answer that a batch is accepted; only such a batch may want memory
 abbrev pub takes_memory : Appended → Bool
 takes_memory (Accepted seq) = true
 takes_memory _ = false
 
--- Tokens rise along the queue, and each is of a batch that was accepted.
+-- Each token is greater than those before it, and is of a batch that was accepted.
 pub record TokensRise (q : PlainQueue) : Type 0 where
   pub rising : (i j : ℕ) → i < j → j < length q.events → token_lt (event_at q i).token (event_at q j).token ≡ true
   pub accepted : (i : ℕ) → i < length q.events → (event_at q i).token.seq < q.batches

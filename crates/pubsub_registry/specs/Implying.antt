@@ -41,7 +41,7 @@ names_with rules names events = with_implied registered rules names events
 abbrev pub rule_count : List Rule → List Event → ℕ
 rule_count rules events = sum_by (λ (event : Event). length (filter (λ (rule : Rule). same_name event.stream.namespace rule.namespace) rules)) events
 
--- all of them, or none where there would be more than may be
+-- the subscriptions that rules make of events are added, all or none
 abbrev pub imply : PlainRegistry → List Event → PlainRegistry × Implied
 imply r events =
     if nat_lt r.most_names (length (names_with r.rules r.names events)) then (r, implied_told.TooMany)

@@ -34,6 +34,6 @@ IsIndexed names row = (stream : StreamId) → AreNumbersOf names stream (row str
 abbrev pub IsOn : List (SubName × Registration) → StreamId → ℕ → Type 0
 IsOn names stream number = slice_get (map (λ entry. entry.1.stream) names) number ≡ Some stream
 
--- no name stands at two places
+-- no name stands twice
 abbrev pub AreUnique : List (SubName × Registration) → Type 0
 AreUnique names = (i j : ℕ) (a b : SubName × Registration) → slice_get names i ≡ Some a → slice_get names j ≡ Some b → same_sub a.0 b.0 ≡ true → i ≡ j

@@ -30,9 +30,11 @@ pub record PlainRegistry : Type 0 where
   pub most_names : ℕ
   pub most_rules : ℕ
 
+-- a registry with no name and no rule
 abbrev pub empty : ℕ → ℕ → PlainRegistry
 empty most_names most_rules = record { names = []; explicit = 0; rules = []; most_names = most_names; most_rules = most_rules }
 
+-- the registration of a name
 abbrev pub registration_of : PlainRegistry → SubName → Option Registration
 registration_of r s = value_at same_sub s r.names
 
@@ -47,7 +49,7 @@ no_entry = (name.Explicit 0, registered (record { namespace = []; key = [] }) (r
 abbrev pub with_name : PlainRegistry → SubName → Registration → PlainRegistry
 with_name r s registration = record r { names = r.names ++ (s, registration) ∷ [] }
 
--- Closed ones and implicit ones count too.
+-- No further name may be added. Closed ones and implicit ones count too.
 abbrev pub is_full : PlainRegistry → Bool
 is_full r = nat_le r.most_names (length r.names)
 
@@ -61,10 +63,12 @@ add_with r stream grain start None = (r, add_told.TooMany)
 add_with r stream grain start (Some number) =
     (record (with_name r (name.Explicit number) (registered stream grain start)) { explicit = number }, add_told.Added number)
 
+-- an explicit subscription more, with the next number, or a refusal where there are too many
 abbrev pub add : PlainRegistry → StreamId → GrainId → Token → PlainRegistry × Added
 add r stream grain start = add_with r stream grain start (next_number r)
 
--- the grain of the kind with the stream's key consumes it
+-- an implicit subscription more, which the grain of the kind with the stream's key consumes, or a refusal
+-- where there are too many
 abbrev pub add_implied : PlainRegistry → List ℕ → StreamId → Token → PlainRegistry × Implied
 add_implied r kind stream start =
     if is_full r then (r, implied_told.TooMany)
@@ -83,13 +87,15 @@ close_found r (name.Explicit number) (Some registration) =
     if registration.is_open then (record r { names = changed_value same_sub (name.Explicit number) closed_registration r.names }, close_told.Done)
     else (r, close_told.Closed)
 
+-- an explicit subscription is closed, or the answer says why not
 abbrev pub close : PlainRegistry → SubName → PlainRegistry × Closing
 close r s = close_found r s (registration_of r s)
 
--- without the registrations made after the first n; the explicit numbers stay given
+-- Only the first registrations are left. The explicit numbers stay given.
 abbrev pub truncated : PlainRegistry → ℕ → PlainRegistry
 truncated r n = record r { names = take n r.names }
 
+-- a rule more, or a refusal where there are too many; one that is there already stays as it is
 abbrev pub add_rule : PlainRegistry → List ℕ → List ℕ → ℕ → PlainRegistry × RuleAdded
 add_rule r kind namespace seq =
     if list_any (λ (rule : Rule). same_name kind rule.kind && same_name namespace rule.namespace) r.rules then (r, rule_told.RuleThere)
@@ -107,7 +113,7 @@ IsOf r stream s = (registration : Registration) × (Contains r.names (s, registr
 abbrev pub Rises : List SubName → Type 0
 Rises names = (before after : List SubName) (a b : SubName) → names ≡ before ++ a ∷ (b ∷ after) → sub_lt a b ≡ true
 
--- the names of a stream's subscriptions, closed ones too, from the least to the greatest
+-- exactly a stream's subscriptions, closed ones too, by name
 pub record AreSubsOf (r : PlainRegistry) (stream : StreamId) (names : List SubName) : Type 0 where
   pub rising : Rises names
   pub theirs : (s : SubName) → Contains names s → IsOf r stream s

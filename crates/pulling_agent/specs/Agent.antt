@@ -26,6 +26,7 @@ empty blocks = record { generation = 0; silo = 0; cache = cache.empty blocks 0 }
 abbrev pub answered : {T : Type 0} → PlainAgent → ℕ → T → Result T StaleAgent
 answered a generation answer = if generation == a.generation then Ok answer else Err (record { now = a.generation })
 
+-- a caller that names another generation than the agent's own is refused
 abbrev pub check : PlainAgent → ℕ → Result (Unit {0}) StaleAgent
 check a generation = answered a generation tt
 
@@ -37,7 +38,7 @@ without_blocks blocks c = record { events = drop (BLOCK_EVENTS * blocks) c.event
 abbrev pub free_blocks : PlainAgent → ℕ → ℕ
 free_blocks a least = blocks.free_blocks a.cache.low (cache.high a.cache) least
 
--- the fewest blocks that make room for want events, or all that are free
+-- the fewest blocks that make room for so many events, or all that are free
 abbrev pub drops : PlainAgent → ℕ → ℕ → ℕ
 drops a least want = blocks.blocks_to_drop (cache.room a.cache) (free_blocks a least) want
 
@@ -53,6 +54,7 @@ plan_of a max_events len least =
     if cache.high a.cache == len then plan.Dry
     else plan_want a least (min (pull_size max_events) (len - cache.high a.cache))
 
+-- how many blocks a pull drops and how many events it takes
 abbrev pub plan_pull : PlainAgent → ℕ → ℕ → ℕ → ℕ → Result Plan StaleAgent
 plan_pull a generation max_events len least = answered a generation (plan_of a max_events len least)
 
@@ -66,11 +68,13 @@ pub record IsTakeable (a : PlainAgent) (len least drops count : ℕ) : Type 0 wh
   pub fits : count ≤ cache.room a.cache + BLOCK_EVENTS * drops
   pub there : cache.high a.cache + count ≤ len
 
+-- The plan drops no block with an event at or past the least resume, and takes events of the log for which
+-- there is room.
 abbrev pub MayTake : PlainAgent → ℕ → ℕ → Plan → Type 0
 MayTake a len least (plan.Take drops count) = IsTakeable a len least drops count
 MayTake a len least _ = Unit {0}
 
--- the cache without its first blocks, and with the events at the end, bare
+-- the agent after a pull: without some blocks, and with the events behind, bare
 abbrev pub pulled : PlainAgent → ℕ → List Event → PlainAgent
 pulled a drops events = record a { cache = cache.with_events (without_blocks drops a.cache) (map bare events) }
 
@@ -86,10 +90,11 @@ fill_up a c queue count = fill a c queue (min (min count (cache.room c)) (length
 abbrev pub take_next : PlainAgent → ℕ → PlainQueue → ℕ → PlainAgent × ℕ
 take_next a drops queue count = fill_up a (without_blocks (min drops (length a.cache.events / BLOCK_EVENTS)) a.cache) queue count
 
--- what a call changes and tells; where the caller speaks for an agent that was replaced, all stays as it was
+-- what a call changes and answers; a caller that names another generation is refused, and changes nothing
 abbrev pub if_current : {S T : Type 0} → PlainAgent → ℕ → S → S × T → S × Result T StaleAgent
 if_current a generation was done = if generation == a.generation then (done.0, Ok done.1) else (was, Err (record { now = a.generation }))
 
+-- the agent after a pull, and how many events it took, for a caller that names the agent's generation
 abbrev pub pull : PlainAgent → ℕ → ℕ → PlainQueue → ℕ → PlainAgent × Result ℕ StaleAgent
 pull a generation drops queue count = if_current a generation a (take_next a drops queue count)
 
@@ -99,7 +104,7 @@ pub record CanTake (a : PlainAgent) (queue : PlainQueue) (drops count : ℕ) : T
   pub room : count ≤ cache.room a.cache + BLOCK_EVENTS * drops
   pub there : cache.high a.cache + count ≤ length queue.events
 
--- then all is dropped and taken as it was planned
+-- a pull that drops and takes all that was planned
 abbrev pub take_planned : PlainAgent → ℕ → PlainQueue → ℕ → PlainAgent × ℕ
 take_planned a drops queue count = (pulled a drops (between queue (cache.high a.cache) (cache.high a.cache + count)), count)
 
@@ -114,6 +119,7 @@ purge_blocks a blocks = (record a { cache = without_blocks blocks a.cache }, a.c
 abbrev pub purge_free : PlainAgent → ℕ → ℕ → PlainAgent × ℕ
 purge_free a keep least = purge_blocks a (purges a keep least)
 
+-- the agent without the free blocks beyond those to keep, and the position at which its cache then begins
 abbrev pub purge : PlainAgent → ℕ → ℕ → ℕ → PlainAgent × Result ℕ StaleAgent
 purge a generation keep least = if_current a generation a (purge_free a keep least)
 
@@ -125,6 +131,6 @@ next_generation generation = min (suc generation) (2 ^ 64 - 1)
 abbrev pub replaced : PlainAgent → ℕ → ℕ → ℕ → PlainAgent × ℕ
 replaced a generation silo at = (record { generation = generation; silo = silo; cache = cache.empty a.cache.blocks at }, generation)
 
--- the next one
+-- the next agent, with the next generation and an empty cache
 abbrev pub take_over : PlainAgent → ℕ → ℕ → PlainAgent × ℕ
 take_over a silo at = replaced a (next_generation a.generation) silo at

@@ -20,12 +20,12 @@ abbrev pub next_at : PlainCache → SubState → Bool → Option ℕ → SubStat
 next_at cache state outstanding None = (caught_up (high cache) outstanding state, sought.Nothing)
 next_at cache state outstanding (Some position) = (state, sought.Next position)
 
--- the next event of a cache that it is owed
+-- the next event of a cache that is owed, or none
 abbrev pub next_event : PlainCache → SubState → StreamId → Bool → SubState × Sought
 next_event cache state stream outstanding =
     if not state.live then (state, sought.Closed) else next_at cache state outstanding (next_in cache state.cursor stream state.start)
 
--- an event that was found is in the cache, and not before the cursor
+-- the event is in the cache, not before the cursor
 abbrev pub IsFound : PlainCache → SubState → Sought → Type 0
 IsFound cache state (sought.Next position) = (state.cursor ≤ position) × (position < high cache)
 IsFound cache state _ = Unit {0}
@@ -42,7 +42,7 @@ abbrev pub ack_at : SubState → List ℕ → SubState × Acked
 ack_at state [] = (state, ack_told.NotHandled)
 ack_at state (position ∷ positions) = (acknowledged position state, ack_told.Acked)
 
--- what it is owed up to and with a handled event is acknowledged
+-- a handled event is acknowledged, with all before it that is owed
 abbrev pub ack : SubState → PlainQueue → Token → SubState × Acked
 ack state queue token =
     if not state.live then (state, ack_told.Closed) else ack_at state (handled_at state.handled queue token)

@@ -5,6 +5,7 @@ use Rattle.std.specs.Prelude.{◌≡◌, ◌≢◌, ◌⊎◌, ℕ, ◌+◌, ◌
 abbrev pub count : ℕ → List ℕ → ℕ
 count silo silos = count_by (λ other. other == silo) silos
 
+-- no silo stands twice
 abbrev pub HasNoDoubles : List ℕ → Type 0
 HasNoDoubles silos = AllPairs (λ one other. one ≢ other) silos
 
@@ -25,9 +26,9 @@ IsEven least live queues =
 abbrev pub MayLose : List ℕ → List ℕ → ℕ → Type 0
 MayLose queues live silo = (count silo live ≡ 0) ⊎ (floor queues live < count silo queues)
 
--- what a rebalancing makes of the old silos, where at least one is live: each queue has a live silo, the
--- loads differ by one at most, queues leave only silos that may lose one, and none moves where the old
--- silos are such already
+-- The assignment that a rebalancing makes of the old one, where at least one silo is live: each queue has a
+-- live silo, the loads differ by one at most, queues leave only silos that may lose one, and nothing moves
+-- where the old assignment is such already.
 pub record IsBalanced (old live new : List ℕ) : Type 0 where
   pub whole : length new ≡ length old
   pub on_live : IsOnLive live new

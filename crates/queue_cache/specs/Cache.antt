@@ -10,26 +10,27 @@ pub record PlainCache : Type 0 where
   pub low : ℕ
   pub blocks : ℕ
 
--- empty, at a position
+-- an empty cache that begins at a position
 abbrev pub empty : ℕ → ℕ → PlainCache
 empty blocks at = record { events = []; low = at; blocks = blocks }
 
--- one past the position of the last event
+-- one past the last position
 abbrev pub high : PlainCache → ℕ
 high c = c.low + length c.events
 
--- how many more events it takes
+-- how many more events fit
 abbrev pub room : PlainCache → ℕ
 room c = BLOCK_EVENTS * c.blocks - length c.events
 
+-- the event at a position of a cache
 abbrev pub event_at : PlainCache → ℕ → Event
 event_at c position = get_or c.events (position - c.low) no_event
 
--- with these events at the end
+-- a cache with more events at its end
 abbrev pub with_events : PlainCache → List Event → PlainCache
 with_events c events = record c { events = c.events ++ events }
 
--- without the first block
+-- a cache without its first block
 abbrev pub without_front : PlainCache → PlainCache
 without_front c = record c { events = drop BLOCK_EVENTS c.events; low = c.low + BLOCK_EVENTS }
 

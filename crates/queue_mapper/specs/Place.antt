@@ -14,6 +14,8 @@ message_of stream = stream.namespace ++ 0 ∷ stream.key
 abbrev pub place_in : List ℕ → ℕ → Place
 place_in digest queues = record { queue = from_be_bytes w64 (take 8 digest) % queues; tag = slice_index digest 8 }
 
+-- The queue and the tag of a stream, of the SHA-256 of its namespace, a zero byte and its key: the first
+-- eight bytes, highest first, modulo the number of queues, and the next byte.
 abbrev pub place_of : StreamId → ℕ → Place
 place_of stream queues = place_in (sha256 (message_of stream)) queues
 
@@ -25,6 +27,6 @@ tag_of stream = (place_of stream 1).tag
 abbrev pub tags_of : List Event → List ℕ
 tags_of events = map (λ event. tag_of event.stream) events
 
--- an event with no byte of its payload
+-- an event with no byte of its payload, as are those of a cache
 abbrev pub bare : Event → Event
 bare event = record event { payload = [] }

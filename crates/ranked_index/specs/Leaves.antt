@@ -12,6 +12,7 @@ pub record PlainResumes : Type 0 where
   pub leaves : List Leaf
   pub order : List ℕ
 
+-- no leaf
 abbrev pub empty : PlainResumes
 empty = record { leaves = []; order = [] }
 
@@ -23,11 +24,11 @@ no_leaf = record { resume = None; is_unacknowledged = false }
 abbrev pub leaf_with : Option ℕ → Bool → Leaf
 leaf_with resume is_unacknowledged = record { resume = resume; is_unacknowledged = is_some resume && is_unacknowledged }
 
--- open, with nothing to acknowledge
+-- an open leaf with nothing to acknowledge
 abbrev pub open_leaf : ℕ → Leaf
 open_leaf resume = leaf_with (Some resume) false
 
--- one leaf more, which has the next number, at a rank
+-- a leaf more, which has the next number, at a rank
 abbrev pub pushed : ℕ → Leaf → PlainResumes → PlainResumes
 pushed rank leaf r = record { leaves = r.leaves ++ leaf ∷ []; order = insert r.order rank (length r.order) }
 
@@ -40,6 +41,7 @@ abbrev pub leaves_filled : List ℕ → ℕ → ℕ → Leaf → List Leaf → L
 leaves_filled order from zero leaf leaves = leaves
 leaves_filled order from (suc count) leaf leaves = set (leaves_filled order from count leaf leaves) (slice_index order (from + count)) leaf
 
+-- the same leaf at so many ranks that follow one another, from one on
 abbrev pub with_leaves : ℕ → ℕ → Leaf → PlainResumes → PlainResumes
 with_leaves from count leaf r = record r { leaves = leaves_filled r.order from count leaf r.leaves }
 
@@ -47,7 +49,7 @@ with_leaves from count leaf r = record r { leaves = leaves_filled r.order from c
 abbrev pub numbers_below : ℕ → List ℕ → List ℕ
 numbers_below len order = filter (λ number. nat_lt number len) order
 
--- the first leaves
+-- the first leaves, in their order
 abbrev pub truncated : ℕ → PlainResumes → PlainResumes
 truncated len r = record { leaves = take len r.leaves; order = numbers_below len r.order }
 
@@ -59,11 +61,11 @@ least_resume r = least_key (map resume_key r.leaves)
 abbrev pub keys_by_rank : (Leaf → Option ℕ) → PlainResumes → List (Option ℕ)
 keys_by_rank key r = map (λ number. key (get_or r.leaves number no_leaf)) r.order
 
--- the number of the open leaf with the least resume, and of those with the least rank
+-- The number of the open leaf with the least resume. Of several it is the one with the least rank.
 abbrev pub top : PlainResumes → Option ℕ
 top r = option_map (slice_index r.order) (least_place (keys_by_rank resume_key r))
 
--- the number of the first leaf from a rank on that is due at high, else of the first of all
+-- the number of the first leaf from a rank on that is due at `high`, else of the first such of all
 abbrev pub due_from : ℕ → ℕ → PlainResumes → Option ℕ
 due_from from high r =
     option_map (slice_index r.order) (or_else (first_at_most from high (keys_by_rank due_key r)) (first_at_most 0 high (keys_by_rank due_key r)))

@@ -8,7 +8,7 @@ pub record IsInverse (order : List ℕ) (rank_of : ℕ → ℕ) : Type 0 where
   pub rank_within : (number : ℕ) → number < length order → rank_of number < length order
   pub forth : (number : ℕ) → number < length order → slice_index order (rank_of number) ≡ number
 
--- the order holds each number below its length once
+-- each number below the length of the order has one rank
 pub record IsRanking (order : List ℕ) : Type 0 where
   pub rank_of : ℕ → ℕ
   pub inverse : IsInverse order rank_of

@@ -9,7 +9,7 @@ use Rattle.script_checker.specs.declared.line.LineFault.{LineFault}
 use Rattle.script_checker.specs.Counts.{verb_in, word_of}
 use Rattle.script_checker.specs.Places.{IsSpot}
 
--- without the place of a fault
+-- what a checked line reads as, without the place of a fault
 abbrev pub parsed_of : Checked → Parsed
 parsed_of (checked.Command command) = parsed.Command command
 parsed_of checked.Skip = parsed.Skip
@@ -34,11 +34,12 @@ pub record IsPlacedFault (line : List ℕ) (fault : LineFault) : Type 0 where
 abbrev pub BeginsWith : List ℕ → List ℕ → Type 0
 BeginsWith line word = (pieces : List Piece) × IsLineOf line (Word word ∷ pieces)
 
--- a command is written with the word of its verb in front
+-- a line that is a command begins with the command's word
 abbrev pub HasVerb : List ℕ → Checked → Type 0
 HasVerb line (checked.Command command) = BeginsWith line (word_of (verb_in command))
 HasVerb line _ = ⊤
 
+-- The word of a fault stands in the line at its column: at the first bad byte, a whole piece, or the end.
 abbrev pub IsPlaced : List ℕ → Checked → Type 0
 IsPlaced line (checked.Fault fault) = IsPlacedFault line fault
 IsPlaced line _ = ⊤

@@ -45,13 +45,14 @@ noted_after queues mode last summary (line ∷ lines) =
 abbrev pub told_of : List LineFault → List Fault
 told_of faults = map (λ (fault : LineFault). fault.fault) faults
 
--- the fault names one of the lines, which are counted from 1, and is placed there
+-- the word of a fault stands so (`IsPlaced`) in the line that the fault names; lines are counted from 1
 pub record IsPlacedIn (lines : List (List ℕ)) (fault : LineFault) : Type 0 where
   pub first : 1 ≤ fault.fault.line
   pub within : fault.fault.line ≤ length lines
   pub placed : IsPlacedFault (get_or lines (fault.fault.line - 1) []) fault
 
--- the faults are those that the parser tells of the lines, each in its place, and the summary has all commands
+-- what a check finds in a script: the faults that the parser tells of the lines, each in its place, and a
+-- summary of all commands
 pub record HasFound (queues : ℕ) (mode : Mode) (lines : List (List ℕ)) (findings : Findings) : Type 0 where
   pub faults : told_of findings.faults.items ≡ faults_after queues mode 0 lines
   pub placed : All (IsPlacedIn lines) findings.faults.items
@@ -64,7 +65,7 @@ fault_line fault = fault_text fault ++ codes "\n"
 abbrev pub fault_lines : List LineFault → List ℕ
 fault_lines faults = flat_map fault_line faults
 
--- the lines of the faults, or the summary where there are none
+-- the text of a check: the lines of the faults, or the summary where there are none
 abbrev pub findings_text : List LineFault → PlainSummary → List ℕ
 findings_text [] summary = summary_text summary
 findings_text (fault ∷ faults) summary = fault_lines (fault ∷ faults)

@@ -46,7 +46,7 @@ stream_in _ = None
 unfoldable pub own_queue : StreamId → ℕ → ℕ
 own_queue stream queues = (place_of stream queues).queue
 
--- no line yet
+-- a summary of no line
 abbrev pub empty : ℕ → PlainSummary
 empty queues = record { queues = queues; counts = replicate VERBS 0; streams = [] }
 
@@ -72,12 +72,12 @@ named summary None = summary
 named summary (Some stream) =
     record summary { streams = with_new same_stream summary.streams (stream, own_queue stream summary.queues) }
 
--- a stream is named that no line before has named
+-- a line names a stream that no line before has named
 abbrev pub names_new : PlainSummary → Option StreamId → Bool
 names_new summary None = false
 names_new summary (Some stream) = not (is_some (queue_in summary stream))
 
--- with the line of a command
+-- a summary with a line more
 abbrev pub noted : PlainSummary → Command → PlainSummary
 noted summary command = counted (named summary (stream_in command)) (verb_in command)
 
@@ -97,6 +97,6 @@ count_lines summary verbs = flat_map (λ verb. count_line verb (count_of summary
 abbrev pub stream_lines : List (StreamId × ℕ) → List ℕ
 stream_lines streams = flat_map stream_line streams
 
--- the lines of all verbs, and then those of the streams
+-- the text of a summary: the lines of all verbs, and then those of the streams
 abbrev pub summary_text : PlainSummary → List ℕ
 summary_text summary = count_lines summary ALL ++ stream_lines summary.streams

@@ -55,7 +55,7 @@ joined pieces = join_with_byte 32 (map spelling pieces)
 abbrev pub text_behind : List ℕ → List ℕ
 text_behind bytes = 32 ∷ spelling (Text bytes)
 
--- the line of an operation on this queue
+-- the line that asks for an operation on this queue
 abbrev pub op_line : ℕ → Op → List ℕ
 op_line queue o = joined (op_pieces queue o)
 

@@ -101,7 +101,7 @@ EndsScript end.NotQuiet lines v old found w new = (is_fixed v ≡ false) × Stop
 EndsScript end.RoundLimit lines v old found w new = (is_fixed v ≡ false) × StopsFront stop.RoundLimit lines v old found w new
 EndsScript end.Halted lines v old found w new = (is_fixed v ≡ true) × DoesNothing v old found w new
 
--- what `run_script` answers
+-- what `run_script` printed and told, by how it ended
 abbrev pub AnswersScript : List Line → ClusterView → List QueuePass → ScriptRun → ClusterView → List QueuePass → Type 0
 AnswersScript lines v old ran w new = EndsScript ran.end lines v old ran.printed.items w new
 
@@ -131,7 +131,7 @@ module _ {H : Type 0} (entries : H → List (Entry Op Reply)) where
     pub count : length traces.histories.items ≡ config.queues
     pub each : AllZip (IsLegalHistory config) (map entries traces.histories.items) traces.partitions.items
 
-  -- so it is with those that a run has left, where all passes came back
+  -- The histories of a run are legal, and lead to the partitions beside them, where all passes came back.
   abbrev pub LeavesLegalTraces : Config → RunEnd H → Type 0
   LeavesLegalTraces config (ends.Report text traces) = AreLegal config traces
   LeavesLegalTraces config (ends.Unfinished why (Some traces)) = AreLegal config traces
@@ -152,8 +152,9 @@ module _ {H : Type 0} (entries : H → List (Entry Op Reply)) where
       × TellFront (missed_in found) done left (map entries traces.histories.items)
   EndsRun config lines found (ends.Unfinished why None) = why ≡ unfinished.Limit
 
-  -- A run of a script prints what the script says of the lines that were done. Where it ends with a report these are all
-  -- lines, the report is the script's, and so is what producers asked and were told at each queue.
+  -- What `run` printed and told, by how it ended: what the script says of the lines that were done. Where it
+  -- ends with a report these are all lines, the report is the script's, and so is what producers asked and
+  -- were told at each queue.
   abbrev pub RunsScript : Config → List Line → Ran H → Type 0
   RunsScript config lines ran = EndsRun config lines ran.printed.items ran.end
 
@@ -195,5 +196,6 @@ abbrev pub report_in : {H : Type 0} → RunEnd H → List ℕ
 report_in (ends.Report text traces) = text.items
 report_in (ends.Unfinished why traces) = []
 
+-- the whole text of a run: the lines that were printed, and the report
 abbrev pub text_of : {H : Type 0} → Ran H → List ℕ
 text_of ran = flat_map line_text ran.printed.items ++ report_in ran.end

@@ -22,7 +22,7 @@ use Rattle.stream_model.specs.Producers.{is_producer}
 use Rattle.script_runs.specs.declared.reader.line.Line.{Line}
 use Rattle.script_runs.specs.Told.{is_among, op_at, producers_entries, rules_of, told, told_of, told_reply, with_told}
 
--- One line more at the end of a script: what it adds to what is told, printed and alive.
+-- what one line more at the end of a script adds to what is told, printed and alive
 pub record ScriptsGrow : Type 0 where
   pub told : (missed : List ℕ) (queue : ℕ) (script : List Line) (line : Line)
       → told missed queue (script ++ line ∷ []) ≡ with_told missed (told missed queue script) line.number (op_at queue line.command)
@@ -34,15 +34,16 @@ pub record ScriptsGrow : Type 0 where
 abbrev pub HasNoLine : ℕ → List Line → Type 0
 HasNoLine number script = AllByRecursion (λ (line : Line). (number == line.number) ≡ false) script
 
--- That a line is refused changes nothing of what is told and printed by a script without it.
+-- That a line is a miss changes nothing of what is told and printed by a script without it.
 pub record MissesChangeNoOther : Type 0 where
   pub told : (missed : List ℕ) (number queue : ℕ) (script : List Line) → HasNoLine number script
       → told (number ∷ missed) queue script ≡ told missed queue script
   pub printed : (missed : List ℕ) (number silos : ℕ) (script : List Line) → HasNoLine number script
       → script_lines (number ∷ missed) silos script ≡ script_lines missed silos script
 
--- What is published, bound, owed and closed, the rules and the subscriptions that a report names are the same
--- by the producers' entries alone. This holds of every list of entries, legal or not.
+-- Producers alone decide what is published, bound, owed and closed, and the rules and the subscriptions that
+-- a report names: by their entries alone these are the same. This holds of every list of entries, legal or
+-- not.
 pub record ProducersTell : Type 0 where
   pub published : (history : List Entry) → published_events (producers_entries history) ≡ published_events history
   pub bound : (history : List Entry) (s : SubName) → binding_of (producers_entries history) s ≡ binding_of history s
@@ -70,6 +71,8 @@ pub record IsOwedSome (history : List Entry) (kind : List ℕ) (stream : StreamI
   pub grain : r.grain ≡ record { kind = kind; key = stream.key }
   pub is_open : r.is_open ≡ true
 
+-- An implicit subscription with a record is owed an event. Its record is of the grain of its kind that has
+-- the key of its stream, and is open.
 abbrev pub ImplicitAreOwed : Type 0
 ImplicitAreOwed =
     Always (λ history p. (kind : List ℕ) (stream : StreamId) (r : Subscription) → sub_at p (name.Implicit kind stream) ≡ Some r
@@ -80,8 +83,7 @@ abbrev pub is_owed_some : List Entry → SubName → Bool
 is_owed_some history (name.Explicit number) = false
 is_owed_some history (name.Implicit kind stream) = nat_lt 0 (length (owed_events history (name.Implicit kind stream)))
 
--- A name is among the implicit subscriptions that a history tells exactly where it is an implicit one that is
--- owed an event.
+-- The implicit subscriptions that a history tells are exactly those that are owed an event.
 abbrev pub ImplicitSubsAreOwed : Type 0
 ImplicitSubsAreOwed =
     Always (λ history p. (s : SubName) → list_any (λ (sub : SubSummary). same_sub s sub.name) (implicit_subs history) ≡ is_owed_some history s)
@@ -96,20 +98,20 @@ abbrev pub is_miss : Reply → Bool
 is_miss (reply.Miss requested low high) = true
 is_miss _ = false
 
--- What a producer asks is answered as the script tells after the producers' entries before it, as far as it
--- says how, unless a limit refuses it. The line is among those whose start token is refused where it was.
+-- Producers are answered as the script tells after the producers' entries before, as far as it says how. The
+-- line is among the misses exactly where its reply is a miss. Not said: anything of `QueueFull` and
+-- `TooMany`.
 abbrev pub RepliesAreTold : Type 0
 RepliesAreTold =
     AtEach (λ before e. is_producer e.op ≡ true → is_limit e.reply ≡ false → (missed : List ℕ) (line : ℕ) → is_among line missed ≡ is_miss e.reply
     → told_of e.reply ≡ told_reply missed (producers_entries before) line e.op)
 
--- In a quiet partition what an open subscription has handled is all that it is owed.
+-- In a quiet partition an open subscription has handled all that it is owed.
 abbrev pub OpenHaveAll : Type 0
 OpenHaveAll =
     Always (λ history p. quiet p ≡ IsQuiet → (s : SubName) → is_closed history s ≡ false → handled_of p s ≡ owed_events history s)
 
--- In a quiet partition the subscriptions that have a record are those that the history tells, in the order of
--- their names.
+-- In a quiet partition the subscriptions with a record are those that the history tells, by name.
 abbrev pub QuietTells : Type 0
 QuietTells = Always (λ history p. quiet p ≡ IsQuiet → summaries_in_order p ≡ told_subs history)
 

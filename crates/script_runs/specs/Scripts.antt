@@ -29,7 +29,7 @@ abbrev pub RisesFrom : ℕ → List Line → Type 0
 RisesFrom last [] = ⊤
 RisesFrom last (line ∷ lines) = (last < line.number) × RisesFrom line.number lines
 
--- a script that may be run on so many queues
+-- commands that may run on so many queues, with rising line numbers
 pub record IsScript (queues : ℕ) (lines : List Line) : Type 0 where
   pub commands : AllByRecursion (λ (line : Line). IsRunCommand queues line.command) lines
   pub rises : RisesFrom 0 lines
@@ -46,7 +46,7 @@ abbrev pub lines_after : ℕ → ℕ → List (List ℕ) → Result (List Line) 
 lines_after queues last [] = Ok []
 lines_after queues last (line ∷ lines) = with_parsed (last + 1) (reading queues mode.Run (last + 1) line) (lines_after queues (last + 1) lines)
 
--- what these lines read as: a script that may be run, or the first fault
+-- what lines read as: a script, or the first fault
 abbrev pub IsRead : ℕ → List (List ℕ) → Script → Type 0
 IsRead queues lines (script.Lines found) = (lines_after queues 0 lines ≡ Ok found.items) × IsScript queues found.items
 IsRead queues lines (script.Fault fault) = lines_after queues 0 lines ≡ Err fault

@@ -71,8 +71,8 @@ printed_lines _ number = []
 abbrev pub IsNewNumber : ℕ → List ℕ → List Line → Type 0
 IsNewNumber number missed lines = HasNoLine number lines × (script.is_among number missed ≡ false)
 
--- A line with this command was answered so. Where the caller had told the lines of a script before it, and nobody else
--- has produced, it has told this line too, and what the line prints is what the script says.
+-- A line with this command was answered so. Where the lines of a script before it were told, and nobody else
+-- has produced, this one is told too, and prints what the script says.
 pub record Tells (old : List QueuePass) (command : Command) (answer : Answer) (new : List QueuePass) : Type 0 where
   pub told :
       AllByRecursion BeginsEmpty old → AloneProduces new → (missed : List ℕ) (lines : List Line) (number : ℕ) → IsNewNumber number missed lines
@@ -81,7 +81,7 @@ pub record Tells (old : List QueuePass) (command : Command) (answer : Answer) (n
       AllByRecursion BeginsEmpty old → AloneProduces new → (missed : List ℕ) (lines : List Line) (number : ℕ) → IsNewNumber number missed lines
       → HasTold missed lines old → (silos : ℕ) → command_printed (with_missed answer number missed) silos lines number command ≡ printed_lines answer number
 
--- what an answer says that isn't a limit
+-- the same as `Tells`, unless a limit was met
 abbrev pub TellsUnlessLimit : List QueuePass → Command → Answer → List QueuePass → Type 0
 TellsUnlessLimit old command a new = a ≢ answer.Limit → Tells old command a new
 
@@ -104,7 +104,7 @@ pub record AsksLast (old : List QueuePass) (op : Op) (result : Result Answer All
   pub queue : ℕ
   pub asks : AsksOnce before queue op result new
 
--- calls end at once where one meets a limit or fails to allocate
+-- calls end where one, the last, meets a limit or fails to allocate
 abbrev pub EndsAsking : List QueuePass → Op → Result Answer AllocError → List QueuePass → Type 0
 EndsAsking old op (Ok answer.Limit) new = AsksLast old op (Ok answer.Limit) new
 EndsAsking old op (Ok _) new = Unit {0}

@@ -99,7 +99,7 @@ abbrev pub with_told : List ℕ → List Entry → ℕ → Option Op → List En
 with_told missed before line None = before
 with_told missed before line (Some op) = before ++ record { op = op; reply = told_reply missed before line op } ∷ []
 
--- the producers' entries of a script at a queue
+-- what producers of a script ask at a queue and are answered, given the lines that are misses
 abbrev pub told : List ℕ → ℕ → List Line → List Entry
 told missed queue script =
     fold (λ before (line : Line). with_told missed before line.number (op_at queue line.command)) [] script

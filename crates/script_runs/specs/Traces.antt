@@ -32,7 +32,8 @@ abbrev pub is_not_quiet : Reply → Bool
 is_not_quiet (reply.NotQuiet why) = true
 is_not_quiet _ = false
 
--- the call looked for something to do, and there was nothing, or asked whether all was quiet, and it wasn't yet
+-- A call that looked for something to do, and there was nothing, or asked whether all was quiet, and it
+-- wasn't yet.
 abbrev pub found_nothing : Op → Reply → Bool
 found_nothing (op.Pull generation most) told = is_dry told
 found_nothing (op.Ready grain) told = is_none_ready told
@@ -60,7 +61,7 @@ entry_text which queue e = shown_text which queue e.op e.reply
 abbrev pub heading : ℕ → List ℕ
 heading queue = codes "# queue " ++ decimal queue ++ 10 ∷ []
 
--- the calls of a queue's history that are shown
+-- the calls of a queue's history that are shown, as a script
 abbrev pub trace_text : Calls → ℕ → List (Entry Op Reply) → List ℕ
 trace_text which queue history = heading queue ++ flat_map (entry_text which queue) history
 
@@ -69,7 +70,7 @@ abbrev pub traces_from : (ℕ → List (Entry Op Reply) → List ℕ) → ℕ �
 traces_from text queue [] = []
 traces_from text queue (history ∷ histories) = text queue history ++ traces_from text (suc queue) histories
 
--- the calls that found something, did something or were refused
+-- the calls of a history that found something, did something or were refused
 abbrev pub busy : List (Entry Op Reply) → List (Entry Op Reply)
 busy history = filter (λ (e : Entry Op Reply). not (found_nothing e.op e.reply)) history
 
@@ -80,5 +81,6 @@ pub record StaysLegal (p : PlainPartition) (history : List (Entry Op Reply)) : T
   pub leaves : replay replied after p (busy history) ≡ replay replied after p history
   pub text : (queue : ℕ) → trace_text calls.Busy queue history ≡ trace_text calls.All queue (busy history)
 
+-- The `busy` calls of a legal history are a legal history, and leave the same partition.
 abbrev pub BusyCallsAreLegal : Type 0
 BusyCallsAreLegal = (p : PlainPartition) (history : List (Entry Op Reply)) → IsLegal replied after p history → StaysLegal p history

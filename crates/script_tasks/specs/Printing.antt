@@ -55,7 +55,7 @@ is_event_line (byte ∷ bytes) = byte == 32
 abbrev pub kept_line : List ℕ → List ℕ
 kept_line line = if is_event_line line then [] else line ++ 10 ∷ []
 
--- the text without the lines of events
+-- a text without the lines of events, which begin with a space
 abbrev pub without_events : List ℕ → List ℕ
 without_events text = flat_map kept_line (lines_of text)
 
@@ -69,7 +69,7 @@ abbrev pub is_seen : Option ℕ → ℕ → Bool
 is_seen None queue = true
 is_seen (Some one) queue = one == queue
 
--- what is shown of the history of a queue
+-- what is shown of a queue's history
 abbrev pub seen : Shown → ℕ → List (Entry Op Reply) → List ℕ
 seen shown queue history = if is_seen shown.queue queue then trace_text shown.calls queue history else []
 

@@ -23,13 +23,13 @@ pub record EndsWords (wrong : Error) (status : ℕ) : Type 0 where
   pub mistake : kind_of wrong ≢ kind.DisplayHelp → kind_of wrong ≢ kind.DisplayVersion → status ≡ 2
   pub request : (kind_of wrong ≡ kind.DisplayHelp) ⊎ (kind_of wrong ≡ kind.DisplayVersion) → (status ≡ 0) ⊎ (status ≡ 3)
 
--- what the program ends with that met a fault
+-- what the program ends with at a fault
 abbrev pub EndsWith : ProgramFault → ExitCode → Type 0
 EndsWith (fault.CommandLine wrong) code = EndsWords wrong (exit_status code)
 EndsWith (fault.Script wrong) code = exit_status code ≡ status_of (fault.Script wrong)
 EndsWith (fault.Unfinished why) code = exit_status code ≡ status_of (fault.Unfinished why)
 
--- what the program ends with, by how that ended which it was asked for
+-- what the program ends with, at any end; 0 or 3 where help or the version was asked for
 abbrev pub Exits : Result Unit ProgramFault → ExitCode → Type 0
 Exits (Ok done) code = exit_status code ≡ 0
 Exits (Err wrong) code = EndsWith wrong code

@@ -50,7 +50,7 @@ cluster_with queues blocks silos history =
 abbrev pub IsShown : ℕ → Shown → Type 0
 IsShown queues shown = IfSome shown.queue (λ queue. queue < queues)
 
--- the configuration of a task is within its conditions
+-- a configuration within its conditions
 abbrev pub IsTask : Task → Type 0
 IsTask (task.Simulate config) = IsSimConfig config
 IsTask (task.Run config much) = IsConfig config
@@ -78,7 +78,7 @@ run_with options = cluster_with options.queues options.blocks options.silos (2 ^
 abbrev pub trace_with : Options → Config
 trace_with options = cluster_with options.queues options.blocks options.silos MOST_ENTRIES
 
--- the task that a subcommand of this name asks for with these options
+-- the task of a subcommand's name and options
 pub record IsAsked (name : List ℕ) (options : Options) (asked : Task) : Type 0 where
   pub run : name ≡ codes "run" → asked ≡ task.Run (run_with options) (detail_with options.summary)
   pub trace : name ≡ codes "trace" → asked ≡ task.Trace (trace_with options) (shown_with options)

@@ -1,4 +1,4 @@
-//! Eight services over streams, one after the other: orders with a desk for each customer, the readings of 600
+//! Services over streams, one after the other: orders with a desk for each customer, the readings of 600
 //! devices, a shop with two tills, one that closes while a till is open, one with an archive that is stopped, one with a
 //! queue that is full, one whose orders lead to bills, and one that may hand out no turn.
 #![tactic(auto)]

@@ -15,7 +15,7 @@ use Rattle.turnstile.specs.Passes.{Origin, PassView}
 abbrev pub replied : PlainDirectory → DirectoryOp → DirectoryReply
 replied d op = (plain.step d op).1
 
--- what the operation leaves
+-- what an operation on a directory leaves
 abbrev pub after : PlainDirectory → DirectoryOp → PlainDirectory
 after d op = (plain.step d op).0
 
@@ -23,7 +23,7 @@ after d op = (plain.step d op).0
 abbrev pub BeganEmpty : Start PlainDirectory → Type 0
 BeganEmpty x = (permits : ℕ) × (x.state ≡ empty permits)
 
--- the pass is of a turnstile that began so
+-- the pass is of a turnstile that began with an empty directory
 abbrev pub IsOfEmpty : PassView DirectoryOp DirectoryReply PlainDirectory → Type 0
 IsOfEmpty p = (t : Origin PlainDirectory) × (p.turnstile ≡ Some t) × BeganEmpty t.start
 
@@ -32,14 +32,14 @@ abbrev pub told_of : List (Entry DirectoryOp DirectoryReply) → List plain.Entr
 told_of entries = map (λ e. record { op = e.op; reply = e.reply }) entries
 
 -- In these calls one permit of a grain is out at a time: between two of them the first is given back, or the
--- grain is taken from the silo that had it.
+-- grain is released from its silo.
 abbrev pub TellsOnePermit : List (Entry DirectoryOp DirectoryReply) → Type 0
 TellsOnePermit entries =
     (before between later : List plain.Entry) (grain : GrainId) (silo permit other_silo other_permit : ℕ)
     → told_of entries ≡ before ++ entered grain silo permit ∷ (between ++ entered grain other_silo other_permit ∷ later)
     → IsFreed between grain silo permit
 
--- These calls are a legal history of the directory that the turnstile began with, and its replay is what they
+-- The calls are a legal history of the directory that the turnstile began with, and their replay is what they
 -- leave. So each law of every legal history holds of them.
 abbrev pub LeavesLegal : Start PlainDirectory → List (Entry DirectoryOp DirectoryReply) → Type 0
 LeavesLegal x entries =

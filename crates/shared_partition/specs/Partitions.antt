@@ -17,7 +17,7 @@ use Rattle.turnstile.specs.Passes.{Origin, PassView}
 abbrev pub replied : PlainPartition → Op → Reply
 replied p op = (step p op).1
 
--- what the operation leaves
+-- what an operation on a partition leaves
 abbrev pub after : PlainPartition → Op → PlainPartition
 after p op = (step p op).0
 
@@ -25,7 +25,7 @@ after p op = (step p op).0
 abbrev pub BeganEmpty : Start PlainPartition → Type 0
 BeganEmpty x = (blocks : ℕ) × (limits : Limits) × (1 ≤ blocks) × (x.state ≡ empty blocks limits)
 
--- the pass is of a turnstile that began so
+-- the pass is of a turnstile that began with an empty partition
 abbrev pub IsOfEmpty : PassView Op Reply PlainPartition → Type 0
 IsOfEmpty p = (t : Origin PlainPartition) × (p.turnstile ≡ Some t) × BeganEmpty t.start
 
@@ -33,14 +33,15 @@ IsOfEmpty p = (t : Origin PlainPartition) × (p.turnstile ≡ Some t) × BeganEm
 abbrev pub told_of : List (Entry Op Reply) → List told.Entry
 told_of entries = map (λ e. record { op = e.op; reply = e.reply }) entries
 
--- The headline. In these calls each subscription has handled a prefix of what it is owed: in the order of the
--- queue, without a gap, nothing twice and nothing after its unsubscribe. A commit has the number of exactly one
--- turn before it, and no number is committed twice. A start token is refused exactly where it is below the low token
--- that was told last.
+-- The headline: the calls that a pass has seen are one history (`IsOneHistory`), whoever made them. In it
+-- each subscription has handled a prefix of what it is owed: in the order of the queue, without a gap,
+-- nothing twice and nothing after its unsubscribe. A commit has the number of exactly one turn before it, and
+-- no number is committed twice. A start token is refused exactly where it is below the low token that was
+-- told last.
 abbrev pub TellsOneHistory : List (Entry Op Reply) → Type 0
 TellsOneHistory entries = IsOneHistory (told_of entries)
 
--- These calls are a legal history of the partition that the turnstile began with, and its replay is what they
+-- The calls are a legal history of the partition that the turnstile began with, and their replay is what they
 -- leave. So each law of every legal history holds of them.
 abbrev pub LeavesLegal : Start PlainPartition → List (Entry Op Reply) → Type 0
 LeavesLegal x entries =

@@ -98,10 +98,11 @@ abbrev pub AgentAdvancesFrom : Option why.Over → Advance → AgentView → Age
 AgentAdvancesFrom None did v w = AgentGoesOn did v w × AgentCounts v w
 AgentAdvancesFrom (Some end) did v w = (did ≡ advance.Over end) × (w ≡ v)
 
+-- one step of an agent: a call that it may make, nothing, or its end
 abbrev pub AgentAdvances : Advance → AgentView → AgentView → Type 0
 AgentAdvances did v w = AgentAdvancesFrom v.over did v w
 
--- some steps, or none
+-- some steps of an agent, or none
 abbrev pub AgentRuns : AgentView → AgentView → Type 0
 AgentRuns v w = Goes AgentAdvances v w
 
@@ -112,9 +113,11 @@ AgentEndsBy (Some over.Rounds) a = a.rounds ≡ 0
 AgentEndsBy (Some over.Limit) a = LineIsAtLimit a.lines
 AgentEndsBy _ a = Unit {0}
 
+-- An agent that ended for want of rounds has none left, and one that ended at a limit met it at one of its
+-- queues. Of other ends nothing is said.
 abbrev pub AgentHasCause : AgentView → Type 0
 AgentHasCause a = AgentEndsBy a.over a
 
--- the same turnstiles
+-- an agent is at the same turnstiles as before
 abbrev pub HasSamePlaces : AgentView → AgentView → Type 0
 HasSamePlaces v w = places w.lines ≡ places v.lines

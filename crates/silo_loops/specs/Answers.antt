@@ -15,7 +15,7 @@ use Rattle.silo_loops.specs.declared.advance.Over.TheVariants as over
 use Rattle.silo_loops.specs.declared.heard.Heard.{Heard}
 use Rattle.silo_loops.specs.declared.heard.Heard.TheVariants as heard
 
--- the answers after which a loop may find more to do
+-- answers of a queue after which a loop may find more to do
 abbrev pub rings : Reply → Bool
 rings (reply.Published seq) = true
 rings (reply.Subscribed number) = true
@@ -31,6 +31,7 @@ rings (reply.Deactivated lost) = true
 rings (reply.Moved generation low) = true
 rings _ = false
 
+-- answers of the directory after which a loop may find more to do
 abbrev pub directory_rings : DirectoryReply → Bool
 directory_rings directory.Left = true
 directory_rings _ = false

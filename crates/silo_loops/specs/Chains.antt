@@ -7,7 +7,7 @@ pub data Chain {A : Type 0} (Step : A → A → Type 0) : A → A → Type 0 whe
   Stays : {v : A} → Chain Step v v
   Steps : {v u w : A} → Step v u → Chain Step u w → Chain Step v w
 
--- calls and pieces of work, or none, and then the step that did this
+-- steps that did something, or none, and then the one that is answered
 abbrev pub Visits : {V : Type 0} → (Advance → V → V → Type 0) → Advance → V → V → Type 0
 Visits {V} advances did v w = (u : V) × Chain (advances Did) v u × advances did u w
 

@@ -43,10 +43,11 @@ is_pull _ = false
 abbrev pub NeverProduces : QueuePass → Type 0
 NeverProduces p = OwnsNone is_producer (numbers_of p) p.seen
 
--- past its mark the pass has asked for a ready grain; has pulled
+-- past its mark the pass has asked for a ready grain
 abbrev pub HasLooked : LineView → Type 0
 HasLooked l = HasOwnPast is_ready l.mark l.pass
 
+-- past its mark the pass has pulled
 abbrev pub HasPulled : LineView → Type 0
 HasPulled l = HasOwnPast is_pull l.mark l.pass
 
@@ -61,11 +62,12 @@ pub record IsKept (l : LineView) (looked pulled : Bool) : Type 0 where
   pub has_looked : (looked ≡ true) ↔ HasLooked l
   pub has_pulled : (pulled ≡ true) ↔ HasPulled l
 
--- the line begins anew: what it has seen is its mark
+-- all that a line has seen is its mark
 abbrev pub rested : LineView → LineView
 rested l = record l { mark = length l.pass.seen }
 
--- One call by the pass of a line. Of all that it has seen then the headline holds, and each law of every legal history.
+-- One call by the pass of a line at its queue. Of all that it has seen then the headline holds, and each law
+-- of every legal history.
 pub record CallsOn (l : LineView) (op : Op) (result : Result Reply Refusal) (m : LineView) : Type 0 where
   pub mark : m.mark ≡ l.mark
   pub call : CallsBy replied after l.pass op result m.pass

@@ -30,6 +30,7 @@ pub record IsSilent {O R S : Type 0} (p q : PassView O R S) : Type 0 where
 abbrev pub LineGoesOn : LineView → LineView → Type 0
 LineGoesOn l m = GoesOn l.pass m.pass
 
+-- the passes of lines have seen as much or more
 abbrev pub GoOn : List LineView → List LineView → Type 0
 GoOn old new = AllZip LineGoesOn old new
 
@@ -37,6 +38,7 @@ GoOn old new = AllZip LineGoesOn old new
 abbrev pub LineIsSilent : LineView → LineView → Type 0
 LineIsSilent l m = IsSilent l.pass m.pass
 
+-- the passes of lines have made no call since
 abbrev pub AreSilent : List LineView → List LineView → Type 0
 AreSilent old new = AllZip LineIsSilent old new
 
@@ -48,7 +50,8 @@ AreAlike l m = m.pass.turnstile ≡ l.pass.turnstile
 abbrev pub joined_line : LineView → LineView → LineView
 joined_line l m = record l { pass = joined_pass l.pass m.pass }
 
--- the line at each place joined with the one at its place among the others, where there is one
+-- lines joined in order: the line at each place with the one at its place among the others, where there is
+-- one
 abbrev pub joined_lines : List LineView → List LineView → List LineView
 joined_lines ls [] = ls
 joined_lines [] (m ∷ ms) = []
@@ -58,7 +61,7 @@ joined_lines (l ∷ ls) (m ∷ ms) = joined_line l m ∷ joined_lines ls ms
 abbrev pub IsMarked : LineView → Type 0
 IsMarked l = l.mark ≡ length l.pass.seen
 
--- a line with a pass that was split off, of which nothing is new
+-- a line with a split pass, of which nothing is new
 abbrev pub IsSplitLine : LineView → LineView → Type 0
 IsSplitLine l m = IsSplitOff l.pass m.pass × IsMarked m
 
@@ -80,7 +83,8 @@ IsFreshAgent rounds a = AllByRecursion IsMarked a.lines × (a.rounds ≡ rounds)
 abbrev pub IsFreshWorker : ℕ → ℕ → WorkerView → Type 0
 IsFreshWorker rounds silo w = (w.silo ≡ silo) × AllByRecursion IsMarked w.lines × (w.work ≡ Nothing) × (w.rounds ≡ rounds) × (w.over ≡ None)
 
--- so have the three loops of the silo
+-- the three loops of a silo have done nothing: nothing is new, nothing in hand, and each may begin so many
+-- rounds
 abbrev pub IsFresh : ℕ → ℕ → SiloView → Type 0
 IsFresh rounds silo s = (s.silo ≡ silo) × IsFreshAgent rounds s.agent × IsFreshWorker rounds silo s.first × IsFreshWorker rounds silo s.second
 
@@ -92,7 +96,7 @@ IsAgentAt lines a = places a.lines ≡ places lines
 abbrev pub IsWorkerAt : List LineView → DirectoryPass → WorkerView → Type 0
 IsWorkerAt lines d w = (places w.lines ≡ places lines) × (w.directory.turnstile ≡ d.turnstile)
 
--- so are those of all loops of the silo
+-- the passes of all loops of a silo are at the turnstiles of these lines, and at this directory's
 pub record IsSiloAt (lines : List LineView) (d : DirectoryPass) (s : SiloView) : Type 0 where
   pub agent : IsAgentAt lines s.agent
   pub first : IsWorkerAt lines d s.first
@@ -109,7 +113,7 @@ pub record HaveJoined (s : SiloView) (ls : List LineView) (d : DirectoryPass) (n
   pub lines : new ≡ joined_lines (joined_lines (joined_lines ls s.agent.lines) s.first.lines) s.second.lines
   pub directory : e ≡ joined_pass (joined_pass d s.first.directory) s.second.directory
 
--- the pass of the first line has taken in that of the second
+-- a line's pass has taken in another's
 abbrev pub HasTakenIn : LineView → LineView → Type 0
 HasTakenIn l m = IsOtherIn m.pass l.pass
 

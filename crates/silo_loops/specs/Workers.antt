@@ -147,10 +147,11 @@ abbrev pub WorkerAdvancesFrom : Follows → Option why.Over → Advance → Work
 WorkerAdvancesFrom follows None did v w = WorkerGoesOn follows did v w × WorkerCounts v w
 WorkerAdvancesFrom follows (Some end) did v w = (did ≡ advance.Over end) × (w ≡ v)
 
+-- one step of a worker: a call that it may make, a piece of work, nothing, or its end
 abbrev pub WorkerAdvances : Follows → Advance → WorkerView → WorkerView → Type 0
 WorkerAdvances follows did v w = WorkerAdvancesFrom follows v.over did v w
 
--- some steps, or none
+-- some steps of a worker, or none
 abbrev pub WorkerRuns : Follows → WorkerView → WorkerView → Type 0
 WorkerRuns follows v w = Goes (WorkerAdvances follows) v w
 
@@ -161,6 +162,8 @@ WorkerEndsBy (Some over.Rounds) w = w.rounds ≡ 0
 WorkerEndsBy (Some over.Limit) w = LineIsAtLimit w.lines ⊎ IsAtLimit end_of_asking w.directory
 WorkerEndsBy _ w = Unit {0}
 
+-- A worker that ended for want of rounds has none left, and one that ended at a limit met it at one of its
+-- queues or at the directory. Of other ends nothing is said.
 abbrev pub WorkerHasCause : WorkerView → Type 0
 WorkerHasCause w = WorkerEndsBy w.over w
 
@@ -169,7 +172,7 @@ abbrev pub worker_of : WorkerState → ℕ → Option why.Over → WorkerView
 worker_of w rounds over =
     record { silo = w.silo; lines = w.lines; directory = w.directory; work = work_in w.at w.step w.events; rounds = rounds; over = over }
 
--- the same turnstiles
+-- a worker is at the same turnstiles as before
 pub record IsBeside (v w : WorkerView) : Type 0 where
   pub lines : places w.lines ≡ places v.lines
   pub directory : w.directory.turnstile ≡ v.directory.turnstile

@@ -31,7 +31,7 @@ AsksUpTo queue result (p ∷ ps) [] = ⊥
 AsksUpTo zero result (p ∷ ps) (q ∷ qs) = Asks result p q × (qs ≡ ps)
 AsksUpTo (suc queue) result (p ∷ ps) (q ∷ qs) = IsQuiet p q × AsksUpTo queue result ps qs
 
--- each queue was quiet; or one wasn't, and was the first; or one refused to be asked
+-- queues were asked in order, up to the first that isn't quiet or refuses
 abbrev pub AsksQuiet : List QueuePass → Result Quiet Refusal → List QueuePass → Type 0
 AsksQuiet old (Ok All) new = AllZip IsQuiet old new
 AsksQuiet old (Ok (NotQuiet queue why)) new = AsksUpTo queue (Ok (reply.NotQuiet why)) old new

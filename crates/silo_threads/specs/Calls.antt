@@ -37,7 +37,7 @@ module _ {O R S : Type 0} where
     pub split : IsSplitOff p other
     pub joined : q ≡ joined_pass p other
 
-  -- the pass at each place joined with the one at its place among the others, where there is one
+  -- passes joined queue by queue, where there are both
   abbrev pub joined_passes : List (PassView O R S) → List (PassView O R S) → List (PassView O R S)
   joined_passes ps [] = ps
   joined_passes [] (q ∷ qs) = []
@@ -48,7 +48,7 @@ module _ {O R S : Type 0} where
     pub whole : r ≡ joined_pass p q
     pub agree : Agree p q r
 
-  -- each pass has taken in the one at its place, where there is one
+  -- each pass has taken in the other at its queue, where there is one
   abbrev pub JoinsAll : List (PassView O R S) → List (PassView O R S) → List (PassView O R S) → Type 0
   JoinsAll ps [] rs = rs ≡ ps
   JoinsAll [] (q ∷ qs) rs = ⊥
@@ -77,7 +77,7 @@ pub record QueueLooks (p : QueuePass) (Shows : PlainPartition → Type 0) (q : Q
   pub headline : TellsOneHistory q.seen
   pub stands : LeavesLegal looks.origin.start q.seen
 
--- one call by the pass at one queue; the other passes are as before
+-- one call by the pass of a caller at one queue; the other passes are as before
 pub record CallerCalls (passes : List QueuePass) (queue : ℕ) (op : Op) (result : Result Reply Refusal) (new : List QueuePass) : Type 0 where
   pub was : QueuePass
   pub is : QueuePass
@@ -85,7 +85,7 @@ pub record CallerCalls (passes : List QueuePass) (queue : ℕ) (op : Op) (result
   pub whole : new ≡ slice_set passes queue is
   pub calls : QueueCalls was op result is
 
--- one look by the pass at one queue; the other passes are as before
+-- one look by the pass of a caller at one queue; the other passes are as before
 pub record CallerLooks (passes : List QueuePass) (queue : ℕ) (Shows : PlainPartition → Type 0) (new : List QueuePass) : Type 0 where
   pub was : QueuePass
   pub is : QueuePass
@@ -106,7 +106,7 @@ pub record TakesBack (old kept : List QueuePass) : Type 0 where
   pub back : HaveTakenBack old kept
   pub beside : turnstiles kept ≡ turnstiles old
 
--- a new pass at each queue, or nothing new
+-- a new pass at each queue, or none
 abbrev pub CallerSplits : List QueuePass → Result (List QueuePass) AllocError → List QueuePass → Type 0
 CallerSplits old (Ok new) kept = SplitsOff old new kept
 CallerSplits old (Err e) kept = TakesBack old kept

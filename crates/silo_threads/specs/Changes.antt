@@ -31,7 +31,7 @@ abbrev pub moved_of : Reply → Option ℕ
 moved_of (reply.Moved generation low) = Some generation
 moved_of _ = None
 
--- past its mark one of the pass's own calls is such
+-- past a mark the pass made such a call
 abbrev pub HasMade : {O R S : Type 0} → ℕ → PassView O R S → (O → R → Type 0) → Type 0
 HasMade {O} {R} mark p IsSuch = HasSome (λ (e : Entry O R). (e.number ≡ p.number) × IsSuch e.op e.reply) (drop mark p.seen)
 
@@ -89,7 +89,7 @@ IsDeactivation grain o r = o ≡ op.Deactivate grain
 abbrev pub IsRelease : ℕ → GrainId → DirectoryOp → DirectoryReply → Type 0
 IsRelease silo grain o r = (o ≡ asked.Down silo) × ((left : ℕ) × (r ≡ directory.Released grain left))
 
--- the directory has no grain on the silo
+-- the directory answers that the silo has no grain
 abbrev pub IsNoneLeft : ℕ → DirectoryOp → DirectoryReply → Type 0
 IsNoneLeft silo o r = (o ≡ asked.Down silo) × (r ≡ directory.NoneLeft)
 
@@ -108,11 +108,11 @@ abbrev pub HaveMoved : List LineView → List LineView → List ℕ → List ℕ
 HaveMoved old new before now =
     AtEachQueue old new (λ queue was is. slice_index now queue ≢ slice_index before queue → HasMovedLast (slice_index now queue) was is)
 
--- each queue that has the silo that it had was moved nowhere
+-- queues that keep their silo were moved nowhere
 abbrev pub HaveStayed : List LineView → List LineView → List ℕ → List ℕ → Type 0
 HaveStayed old new before now = AtEachQueue old new (λ queue was is. slice_index now queue ≡ slice_index before queue → HasMovedNowhere was is)
 
--- each queue was moved nowhere
+-- no queue was moved
 abbrev pub HaveMovedNowhere : List LineView → List LineView → Type 0
 HaveMovedNowhere old new = AtEachQueue old new (λ queue was is. HasMovedNowhere was is)
 
@@ -124,6 +124,7 @@ IsAtSilo before now was is = (now ≢ before → HasMovedLast now was is) × (no
 abbrev pub LineHasOnlySeen : LineView → LineView → Type 0
 LineHasOnlySeen l m = (m.mark ≡ l.mark) × HasOnlySeen l.pass m.pass
 
+-- the passes of lines are as before, save what they have seen
 abbrev pub HaveOnlySeen : List LineView → List LineView → Type 0
 HaveOnlySeen old new = AllZip LineHasOnlySeen old new
 
@@ -153,6 +154,6 @@ pub record StaysBehind (why : Halt) (old new : List LineView) (before now : List
 abbrev pub HasFoundOne : Halt → List LineView → Type 0
 HasFoundOne why lines = (queue : ℕ) × (is : LineView) × (slice_get lines queue ≡ Some is) × HasFound why is.pass
 
--- Why a silo's grains didn't all leave: the directory wasn't found without one, and it or a queue has refused a call.
+-- Why grains stayed on a silo: the directory wasn't found without one, and it or a queue has refused a call.
 abbrev pub HoldsGrains : Halt → ℕ → DirectoryPass → DirectoryPass → List LineView → Type 0
 HoldsGrains why silo d e lines = (HasMade (length d.seen) e (IsNoneLeft silo) → ⊥) × (HasFound why e ⊎ HasFoundOne why lines)

@@ -72,7 +72,7 @@ module _ {H : Type 0} (entries : H → List (Entry Op Reply)) where
   abbrev pub AreTracesOf : List QueuePass → Traces H → Type 0
   AreTracesOf ps traces = AreTraces ps (map entries traces.histories.items) traces.partitions.items
 
-  -- the trace of each pass, or the first queue where a pass is missing, or nothing
+  -- a trace of each queue, or the first queue with a missing pass, or, as `InUse`, nothing
   abbrev pub IsClosing : List QueuePass → Closing H → Type 0
   IsClosing ps (closing.Traced traces) = AreTracesOf ps traces
   IsClosing ps (closing.NotAll queue missing) = IsMissingFirst queue missing ps

@@ -90,7 +90,7 @@ pub record ClusterView : Type 0 where
   pub rounds : ℕ
   pub looks : ℕ
 
--- no silo comes or goes by itself
+-- the set of silos is frozen, or the cluster parked
 abbrev pub is_fixed : ClusterView → Bool
 is_fixed c = c.is_parked || c.is_halted
 
@@ -98,7 +98,7 @@ is_fixed c = c.is_parked || c.is_halted
 abbrev pub RunLoops : ClusterView → Type 0
 RunLoops c = map (λ (s : SiloView). s.silo) c.silos ≡ c.operator.live
 
--- the loops of these silos have their passes at the operator's turnstiles
+-- the passes of the silos' loops are at the operator's turnstiles
 abbrev pub RunsOn : OperatorView → List SiloView → Type 0
 RunsOn o silos = AllByRecursion (IsSiloAt o.lines o.directory) silos
 
@@ -179,7 +179,7 @@ pub record IsUp (v : ClusterView) (silo : ℕ) (w : ClusterView) : Type 0 where
 abbrev pub HasAtMostCome : ℕ → List SiloView → List SiloView → Type 0
 HasAtMostCome silo old new = (new ≡ old) ⊎ ((s : SiloView) × (new ≡ old ++ s ∷ []) × (s.silo ≡ silo))
 
--- what `silo_up` answers, by the silos that live
+-- when each answer of `silo_up` comes, by the silos that live, and what it leaves
 abbrev pub AnswersUp : ClusterView → ℕ → Result SiloUp AllocError → ClusterView → Type 0
 AnswersUp v silo (Ok up.Halted) w = (is_fixed v ≡ true) × (w ≡ v)
 AnswersUp v silo (Ok up.Already) w = (is_fixed v ≡ false) × Contains v.operator.live silo × (w ≡ v)
@@ -233,7 +233,8 @@ pub record HasNoted (v : ClusterView) (silo : ℕ) (w : ClusterView) : Type 0 wh
   pub come : HaveComeBack w.operator.lines w.operator.directory back
   pub ends : w.ends ≡ noted v.ends back
 
--- what `silo_down` answers, by the silos that live
+-- when each answer of `silo_down` comes, by the silos that live, and what it leaves: the grains of the silo
+-- that went are deactivated, and the queues spread
 abbrev pub AnswersDown : ClusterView → ℕ → Result SiloDown AllocError → ClusterView → Type 0
 AnswersDown v silo (Ok down.Halted) w = (is_fixed v ≡ true) × (w ≡ v)
 AnswersDown v silo (Ok down.NotLive) w = (is_fixed v ≡ false) × (¬ Contains v.operator.live silo) × (w ≡ v)
@@ -254,7 +255,7 @@ IsRetired v loops w = (v.is_halted ≡ false) × MayGo v loops.silo × IsDown v 
 abbrev pub IsBrokenOff : ClusterView → SiloView → ClusterView → Type 0
 IsBrokenOff v loops w = (v.is_halted ≡ false) × MayGo v loops.silo × HasHalted v w × AreNoted v loops w
 
--- what `retire` answers for these loops, by the silos that live
+-- when each answer of `retire` comes for these loops, by the silos that live, and what it leaves
 abbrev pub AnswersRetire : {G H D : Type 0} → ClusterView → SiloView → Result (Retired G H D) AllocError → ClusterView → Type 0
 AnswersRetire v loops (Ok (retired.Halted back)) w = (v.is_halted ≡ true) × (back ≡ loops) × (w ≡ v)
 AnswersRetire v loops (Ok (retired.LastSilo back)) w = (v.is_halted ≡ false) × (v.operator.live ≡ loops.silo ∷ []) × (back ≡ loops) × (w ≡ v)
@@ -295,7 +296,7 @@ pub record IsOpened (config : Config) (o : OperatorView) (caller : List QueuePas
   pub each : length caller ≡ config.queues
   pub unused : AllByRecursion IsUnused caller
 
--- A new cluster and its caller: so it was opened, and the loops of the silos run. Where they began they had done nothing.
+-- A new cluster with its caller. The loops of its silos run, and had done nothing where they began.
 pub record IsNew (config : Config) (c : ClusterView) (caller : List QueuePass) : Type 0 where
   pub opened : IsOpened config c.operator caller
   pub loops : RunLoops c
@@ -305,8 +306,8 @@ pub record IsNew (config : Config) (c : ClusterView) (caller : List QueuePass) :
   pub rounds : c.rounds ≡ config.rounds
   pub looks : c.looks ≡ config.looks
 
--- A new parked cluster, its caller, and the loops of its silos: so it was opened, and the loops are those of the silos
--- that live, in their order, at the cluster's turnstiles. They have done nothing yet.
+-- A new parked cluster with its caller, and the loops of the silos that live, in their order, at the
+-- cluster's turnstiles. They have done nothing yet.
 pub record IsNewParked (config : Config) (c : ClusterView) (caller : List QueuePass) (loops : List SiloView) : Type 0 where
   pub opened : IsOpened config c.operator caller
   pub parked : c.is_parked ≡ true
@@ -332,12 +333,12 @@ pub record HasEnded {H : Type 0} (entries : H → List (Entry Op Reply)) (c : Cl
   pub producers : OnHistories entries (CallersAloneProduce callers) answer
 
 module _ {H : Type 0} (entries : H → List (Entry Op Reply)) where
-  -- A cluster has ended whose silos were threads: their loops, which had done nothing where they were started, have run
-  -- and came back as these.
+  -- The cluster has ended, with these loops and callers. Its loops were threads, had done nothing where they
+  -- were started, and came back as these.
   abbrev pub HasFinished : ClusterView → List (List QueuePass) → List SiloView → Finished H → Type 0
   HasFinished c callers back answer =
       HasEnded entries c (λ lines d ends. AreFresh c.rounds c.silos × AllZip HasRun c.silos back × HaveEnded c.ends back lines d ends) callers answer
 
-  -- a parked cluster has ended, to which these loops came back
+  -- a parked cluster has ended, with these loops and callers
   abbrev pub HasFinishedParked : ClusterView → List SiloView → List (List QueuePass) → Finished H → Type 0
   HasFinishedParked c loops callers answer = HasEnded entries c (HaveEnded c.ends loops) callers answer

@@ -27,15 +27,16 @@ IsForProducers op = (is_producer op ≡ true) ⊎ (op ≡ ops.Quiet)
 abbrev pub AsksForProducers : List ℕ → List (Entry Op Reply) → Type 0
 AsksForProducers numbers es = AllByRecursion (λ (e : Entry Op Reply). Contains numbers e.number → IsForProducers e.op) es
 
--- The same pass, which has seen as much or more. Of what it has seen since, each call of its own, or of a pass that was
--- joined to it, is a producer's or asks whether the queue is quiet.
+-- A pass has seen as much or more, and its own calls since, and those of passes joined to it, are a
+-- producer's or ask whether the queue is quiet.
 pub record HasGoneOn (p q : QueuePass) : Type 0 where
   pub only : HasOnlySeen p q
   pub more : List (Entry Op Reply)
   pub seen : q.seen ≡ p.seen ++ more
   pub own : AsksForProducers (numbers_of p) more
 
--- The same pass, which has seen as much or more, and has asked since for nothing that producers ask for.
+-- A pass has seen as much or more, and none of its own calls since, nor of those of passes joined to it, is a
+-- producer's.
 pub record ProducesNone (p q : QueuePass) : Type 0 where
   pub on : HasGoneOn p q
   pub none : OwnsNone is_producer (numbers_of p) on.more
@@ -61,7 +62,7 @@ pub record Looks (looks : ℕ) (result : Result Quiet Refusal) (old new : List Q
 abbrev pub LooksQuiet : ℕ → List QueuePass → List QueuePass → Type 0
 LooksQuiet looks old new = Looks looks (Ok All) old new
 
--- how a drain ends that may have so many looks
+-- how a drain ends, by its looks, of which it may have so many
 abbrev pub EndsLooking : ℕ → List QueuePass → Result Drained AllocError → List QueuePass → Type 0
 EndsLooking looks old (Ok drained.Quiet) new = LooksQuiet looks old new
 EndsLooking looks old (Ok drained.NotQuiet) new = LooksInVain looks old new

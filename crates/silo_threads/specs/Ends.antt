@@ -4,7 +4,7 @@ use Rattle.silo_loops.specs.declared.advance.Over.{Over}
 use Rattle.silo_loops.specs.declared.advance.Over.TheVariants.{Rounds, Limit, Memory}
 use Rattle.silo_threads.specs.declared.ending.ends.LoopEnds.{LoopEnds}
 
--- the same with one more loop, which ended so, or was told to stop
+-- the marks of ended loops, with one loop more, which ended so, or was told to stop
 abbrev pub ends_with : LoopEnds → Option Over → LoopEnds
 ends_with ends None = ends
 ends_with ends (Some Rounds) = record ends { rounds = true }

@@ -56,8 +56,8 @@ module _ {H : Type 0} (entries : H → List (Entry Op Reply)) where
   Answers ends asked last (finished.NotAll queue missing) = IsMissingFirst queue missing last
   Answers ends asked last finished.InUse = Unit {0}
 
-  -- No loop wanted for memory. The passes were asked whether each queue is quiet, and what is answered is said of what
-  -- they were then.
+  -- What each answer of `finish` says of loops, queues and passes. No loop wanted for memory. The passes were
+  -- asked whether each queue is quiet, and what is answered is said of what they were then.
   pub record IsFinished (ends : LoopEnds) (passes : List QueuePass) (answer : Finished H) : Type 0 where
     pub memory : ends.memory ≡ false
     pub asked : Option Quiet
@@ -65,7 +65,7 @@ module _ {H : Type 0} (entries : H → List (Entry Op Reply)) where
     pub came_to : CameTo asked passes last
     pub answers : Answers ends asked last answer
 
-  -- P holds of the histories, where there are any
+  -- a property holds of the histories, where there are any
   abbrev pub OnHistories : (List (List (Entry Op Reply)) → Type 0) → Finished H → Type 0
   OnHistories P (finished.Report text traces) = P (map entries traces.histories.items)
   OnHistories P (finished.NotQuiet queue why traces) = P (map entries traces.histories.items)
@@ -82,8 +82,8 @@ HasBegun p history = Claims (numbers_of p) p.seen history
 abbrev pub HasSeenFront : QueuePass → List (Entry Op Reply) → Type 0
 HasSeenFront p history = (later : List (Entry Op Reply)) × (history ≡ p.seen ++ later) × CallsAlone p later
 
--- what each pass of a line and of a caller has seen begins the history of its queue, past which no caller has made a
--- call, nor any pass that a line took in
+-- What each pass of a line and of a caller had seen begins the history of its queue, past which no caller has
+-- made a call, nor any pass that a line took in.
 pub record HaveBegun (lines : List QueuePass) (callers : List (List QueuePass)) (histories : List (List (Entry Op Reply))) : Type 0 where
   pub of_lines : AllZip HasSeenFront lines histories
   pub of_callers : AllByRecursion (λ caller. AllZip HasBegun caller histories) callers
@@ -92,7 +92,7 @@ pub record HaveBegun (lines : List QueuePass) (callers : List (List QueuePass)) 
 abbrev pub HasMade : ℕ → Entry Op Reply → List QueuePass → Type 0
 HasMade queue e caller = (p : QueuePass) × (slice_get caller queue ≡ Some p) × Contains (numbers_of p) e.number
 
--- Only callers publish, subscribe, unsubscribe and add rules: each such entry of a history was made by one of these.
+-- Each producer's call (publish, subscribe, unsubscribe, add a rule) in a history is a caller's.
 abbrev pub CallersAloneProduce : List (List QueuePass) → List (List (Entry Op Reply)) → Type 0
 CallersAloneProduce callers histories =
     (queue : ℕ) (history : List (Entry Op Reply)) (e : Entry Op Reply) → slice_get histories queue ≡ Some history → Contains history e

@@ -15,7 +15,7 @@ AreAt at passes = turnstiles passes ≡ at
 abbrev pub passes_of : List LineView → List QueuePass
 passes_of lines = map (λ (l : LineView). l.pass) lines
 
--- these passes joined with those of each caller, one caller after another
+-- the passes of lines joined with every caller's, one caller after another
 abbrev pub gathered : List QueuePass → List (List QueuePass) → List QueuePass
 gathered passes [] = passes
 gathered passes (caller ∷ callers) = gathered (joined_passes passes caller) callers

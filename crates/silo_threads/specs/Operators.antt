@@ -20,24 +20,25 @@ pub record IsOperator (v : OperatorView) : Type 0 where
   pub assigned : length v.assignment ≡ length v.lines
   pub once : HasNoDoubles v.live
 
--- its own passes have seen as much and more
+-- passes of an operator have seen as much or more
 pub record OperatorGoesOn (v w : OperatorView) : Type 0 where
   pub lines : GoOn v.lines w.lines
   pub directory : GoesOn v.directory w.directory
 
--- only its passes have changed
+-- only the passes of the operator have changed, and have seen as much or more
 pub record HasOnlyGoneOn (v w : OperatorView) : Type 0 where
   pub on : OperatorGoesOn v w
   pub live : w.live ≡ v.live
   pub assignment : w.assignment ≡ v.assignment
 
--- the queues are spread anew over the silos that live, and those that have another silo than before were moved there
+-- queues are balanced anew over the silos that live, and those that have another silo than before were moved
+-- there
 pub record HasSpread (v w : OperatorView) : Type 0 where
   pub balanced : IsBalanced v.assignment w.live w.assignment
   pub moved : HaveMoved v.lines w.lines v.assignment w.assignment
 
--- Why the queues weren't spread anew over these silos: one wasn't moved where it is to go. Or no line has changed, since
--- no silo lives or the call failed to allocate.
+-- Why queues weren't spread anew over these silos: one wasn't moved where it is to go. Or no line has
+-- changed, since no silo lives or the call failed to allocate.
 abbrev pub IsUnspread : Halt → List ℕ → List ℕ → List LineView → List LineView → Type 0
 IsUnspread why assignment live old new =
     ((new ≡ old) × (why ≡ halt.Limit → live ≡ [])) ⊎ ((fresh : List ℕ) × IsBalanced assignment live fresh × StaysBehind why old new assignment fresh)

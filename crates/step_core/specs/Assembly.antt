@@ -28,9 +28,9 @@ pub record IsAssembled (parts : Parts) : Type 0 where
   pub numbered : AllByRecursion (λ entry. IsBelow (length parts.subs.registry.names) entry.1) parts.grains
   pub known : AreKnown parts.subs.registry.names parts.subs.states parts.grains
 
--- What each operation goes out from. A legal history leads to the plain partition that the parts stand for,
--- and the tables are as they promise of themselves: no name and no grain has two numbers, and each name has a
--- state that agrees with its registration.
+-- The invariant, from which each operation goes out: a legal history leads to the plain partition that the
+-- parts stand for, and the tables are as they promise of themselves (no name and no grain has two numbers,
+-- and each name has a state that agrees with its registration). `docs/ARCHITECTURE.md` explains its fields.
 pub record Agrees (parts : Parts) : Type 0 where
   pub assembled : IsAssembled parts
   pub within : IsWithinLimits (plain_of parts)

@@ -27,7 +27,7 @@ abbrev pub meant : {T : Type 0} → Result T Stop → Option (Option draining.St
 meant (Ok done) = Some None
 meant (Err why) = halted why
 
--- The first of these operations are done, and no other: the next one may allocate, and failed to.
+-- Only the first of these operations are done: the next one may allocate, and failed to.
 pub record BreaksOff (old new : PlainPartition) (entries : List Entry) : Type 0 where
   pub done : List Entry
   pub failed : Entry

@@ -19,10 +19,11 @@ abbrev pub presser : Reply → Option SubName
 presser (reply.Pressed s) = Some s
 presser _ = None
 
--- the subscription that a pull of one event is answered Pressed by, none where it is answered otherwise
+-- the name in `Pressed`, where a pull of one event is answered so
 abbrev pub pressed_by : PlainPartition → Option SubName
 pressed_by p = presser (step p (Pull p.generation 1)).1
 
+-- the figures of a queue
 abbrev pub figures_of : PlainPartition → QueueFigures
 figures_of p =
     record {

@@ -14,16 +14,16 @@ use Rattle.stream_model.specs.Positions.{sub_at}
 use Rattle.stream_model.specs.Step.{Stands}
 use Rattle.stream_laws.specs.DrainLaws.{left, sum_open}
 
--- By each history that leads to the partition, each open subscription has handled all that it is owed, and an implicit
--- name without a record is owed nothing.
+-- By each history that leads to the partition, open subscriptions have handled all that they are owed, and an
+-- implicit name without a record is owed nothing.
 abbrev pub OwesNothing : PlainPartition → Type 0
 OwesNothing p =
     (blocks : ℕ) (limits : Limits) (history : List Entry) → Stands blocks limits history p
     → ((s : SubName) → is_closed history s ≡ false → handled_events history s ≡ owed_events history s)
     × ((kind : List ℕ) (stream : StreamId) → sub_at p (name.Implicit kind stream) ≡ None → owed_events history (name.Implicit kind stream) ≡ [])
 
--- After a drain that has handled all the partition is quiet. It took as many turns as, by each history that leads to the
--- partition before, the subscriptions that are open after it were owed and hadn't handled.
+-- A drain that has handled all left the partition quiet. It took a turn for each event that, by each history
+-- that leads to the partition before, the subscriptions that are open after it were owed and hadn't handled.
 abbrev pub Finishes : PlainPartition → PlainPartition → DrainEnd → Type 0
 Finishes old new (ending.Drained turns) =
     (quiet new ≡ IsQuiet)

@@ -21,7 +21,7 @@ summaries_of p = map summary_of p.subs
 abbrev pub is_named_before : SubSummary → SubSummary → Bool
 is_named_before a b = sub_lt a.name b.name
 
--- the summaries from the least name to the greatest
+-- a summary of each record, from the least name to the greatest
 abbrev pub summaries_in_order : PlainPartition → List SubSummary
 summaries_in_order p = in_order is_named_before (summaries_of p)
 

@@ -22,25 +22,26 @@ abbrev pub replied : Result Outcome AllocError → Result Reply AllocError
 replied (Ok came) = Ok (reply_of came)
 replied (Err e) = Err e
 
--- a turn has the events of the log at its positions
+-- a reply whose turn has the log's events at its positions
 abbrev pub reply_with : List Event → Outcome → Reply
 reply_with log came = with_events (events_at log) came
 
+-- the reply for which the result of `advance` stands
 abbrev pub answered : List Event → Result Outcome AllocError → Result Reply AllocError
 answered log (Ok came) = Ok (reply_with log came)
 answered log (Err e) = Err e
 
--- the positions of a turn are of the log
+-- the positions of a reply's turn lie in the log
 abbrev pub IsOfLog : List Event → Outcome → Type 0
 IsOfLog log (reply.Turn sub activation turn positions note) = AllByRecursion (λ position. position < length log) positions
 IsOfLog log _ = Unit {0}
 
--- the reply that an outcome stands for, whatever the events of its turn are
+-- an answer stands for this reply, whatever the events of its turn are
 abbrev pub Says : Outcome → Reply → Type 0
 Says (reply.Turn sub activation turn positions note) r = (events : List Event) × (r ≡ reply.Turn sub activation turn events note)
 Says came r = r ≡ reply_of came
 
--- where it is a turn, its events are these
+-- these are a turn's events, where the reply is one
 abbrev pub HasEvents : Reply → List Event → Type 0
 HasEvents (reply.Turn sub activation turn events note) shown = shown ≡ events
 HasEvents _ shown = Unit {0}
@@ -50,6 +51,6 @@ abbrev pub events_after : Reply → List Event → List Event
 events_after (reply.Turn sub activation turn events note) old = events
 events_after _ old = old
 
--- what a reply puts into the room that was lent, where that has room for the sixteen events of a turn
+-- a turn's events are in the lent room, if it has the sixteen places
 abbrev pub Shows : Vec Event → Vec Event → Reply → Type 0
 Shows old new r = (TURN_EVENTS ≤ vec_capacity old → new.items ≡ events_after r old.items) × (vec_capacity new ≡ vec_capacity old)

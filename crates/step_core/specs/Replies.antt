@@ -14,12 +14,13 @@ use Rattle.pulling_agent.specs.declared.told.Acked.TheVariants as ack_told
 use Rattle.pulling_agent.specs.declared.told.Retried.{Retried}
 use Rattle.pulling_agent.specs.declared.told.Retried.TheVariants as retry_told
 
+-- the reply to the producer of a batch, by what its queue answered
 abbrev pub of_append : Appended → Reply
 of_append (appended.Accepted seq) = reply.Published seq
 of_append appended.BadBatch = reply.BadBatch
 of_append appended.QueueFull = reply.QueueFull
 
--- the reply to the producer of a batch
+-- the reply to the producer of a batch, by the result of the call
 abbrev pub appended_reply : Result Appended AllocError → Result Reply AllocError
 appended_reply (Ok appended) = Ok (of_append appended)
 appended_reply (Err e) = Err e

@@ -6,13 +6,13 @@ use Rattle.stream_model.specs.Replies.{Reply}
 use Rattle.stream_model.specs.Memory.{may_allocate}
 use Rattle.stream_model.specs.Step.{after_steps, replies_of}
 
--- the operations were done in order, and their replies appended
+-- operations were done in order and their replies appended
 pub record Does (ops : List Op) (old new : PlainPartition) (before after : List Reply) : Type 0 where
   pub state : new ≡ after_steps old ops
   pub replies : after ≡ before ++ replies_of old ops
 
--- The first of the operations were done, and no other. The call failed to allocate for the next one, which may
--- take memory, or, before the first, for the room of all replies.
+-- Only the first operations were done. The call failed to allocate for the next one, which may take memory,
+-- or, where none was done, for the room of all replies.
 pub record StopsBefore (ops : List Op) (old new : PlainPartition) (before after : List Reply) : Type 0 where
   pub done : List Op
   pub next : Op

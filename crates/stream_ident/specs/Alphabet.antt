@@ -10,7 +10,7 @@ is_name_byte byte =
     (nat_le 65 byte && nat_le byte 90) || ((nat_le 97 byte && nat_le byte 122) || ((nat_le 48 byte && nat_le byte 57)
     || ((byte == 95) || ((byte == 46) || (byte == 45)))))
 
--- a name: 1 to 64 bytes of the alphabet
+-- 1 to 64 bytes of `A-Z a-z 0-9 _ . -`
 pub record IsName (bytes : List ℕ) : Type 0 where
   pub some : 0 < length bytes
   pub short : length bytes ≤ NAME_BYTES
@@ -25,7 +25,7 @@ wrong_in_name bytes = if length bytes == 0 then Some 0 else wrong_place is_name_
 abbrev pub is_printable : ℕ → Bool
 is_printable byte = nat_le 32 byte && nat_le byte 126
 
--- a payload: at most 256 printable bytes
+-- at most 256 bytes, each 0x20 to 0x7E
 pub record IsPayload (bytes : List ℕ) : Type 0 where
   pub short : length bytes ≤ PAYLOAD_BYTES
   pub good : list_all is_printable bytes ≡ true

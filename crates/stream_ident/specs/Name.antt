@@ -14,6 +14,7 @@ abbrev pub name_or : List ℕ → Option ℕ → Result (List ℕ) WrongByte
 name_or bytes None = Ok bytes
 name_or bytes (Some at) = Err (record { at = at })
 
+-- The name that bytes spell, or the first wrong place: 64 for a longer name, 0 for an empty one.
 abbrev pub name_of : List ℕ → Result (List ℕ) WrongByte
 name_of bytes = name_or bytes (wrong_in_name bytes)
 
@@ -21,7 +22,7 @@ abbrev pub payload_or : List ℕ → Option ℕ → Result (List ℕ) BadPayload
 payload_or bytes None = Ok bytes
 payload_or bytes (Some at) = Err (record { at = at })
 
--- the bytes where they are a payload, else the least wrong place
+-- the payload that bytes spell, or the first wrong place
 abbrev pub payload_of : List ℕ → Result (List ℕ) BadPayload
 payload_of bytes = payload_or bytes (wrong_in_payload bytes)
 
@@ -56,6 +57,7 @@ grain_of kind key = do
 abbrev pub same_name : List ℕ → List ℕ → Bool
 same_name a b = pointwise nat_eq a b
 
+-- by bytes, the first name before the second
 abbrev pub name_lt : List ℕ → List ℕ → Bool
 name_lt a b = is_lt (slice_cmp nat_cmp a b)
 
@@ -63,12 +65,14 @@ name_lt a b = is_lt (slice_cmp nat_cmp a b)
 abbrev pub same_stream : StreamId → StreamId → Bool
 same_stream a b = same_name a.namespace b.namespace && same_name a.key b.key
 
+-- by namespace, then by key
 abbrev pub stream_lt : StreamId → StreamId → Bool
 stream_lt a b = name_lt a.namespace b.namespace || (same_name a.namespace b.namespace && name_lt a.key b.key)
 
 abbrev pub same_grain : GrainId → GrainId → Bool
 same_grain a b = same_name a.kind b.kind && same_name a.key b.key
 
+-- by kind, then by key
 abbrev pub grain_lt : GrainId → GrainId → Bool
 grain_lt a b = name_lt a.kind b.kind || (same_name a.kind b.kind && name_lt a.key b.key)
 

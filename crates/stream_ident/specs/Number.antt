@@ -12,7 +12,7 @@ abbrev pub is_numeral : List ℕ → Bool
 is_numeral bytes =
     all_ascii_digits bytes && (nat_lt 0 (length bytes) && not ((slice_index bytes 0 == 48) && nat_lt 1 (length bytes)))
 
--- the number below 2 ^ 64 that the bytes write
+-- the number below 2^64 that bytes write in decimal without leading zeros
 abbrev pub number_of : List ℕ → Option ℕ
 number_of bytes =
     if is_numeral bytes && nat_lt (value_after 0 bytes) (2 ^ 64) then Some (value_after 0 bytes) else None

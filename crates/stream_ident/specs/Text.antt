@@ -4,7 +4,7 @@ use Rattle.std.specs.Option.{option_map}
 use Rattle.std.proofs.Common.{sym, ap, ◌∙◌, subst}
 use Rattle.std.proofs.lemmas.List.{length-take-le}
 
--- the first where it is there, else the second
+-- the first option where it is there, else the second
 abbrev pub or_else : {A : Type 0} → Option A → Option A → Option A
 or_else None other = other
 or_else (Some x) other = Some x
@@ -14,7 +14,7 @@ abbrev pub wrong_place : (ℕ → Bool) → ℕ → List ℕ → Option ℕ
 wrong_place good most bytes =
     or_else (position (λ byte. not (good byte)) (take most bytes)) (if nat_lt most (length bytes) then Some most else None)
 
--- the bytes before the first separator and those behind it
+-- the bytes before and behind the first separator
 abbrev pub split_once : ℕ → List ℕ → Option (List ℕ × List ℕ)
 split_once separator [] = None
 split_once separator (byte ∷ bytes) =

@@ -9,15 +9,15 @@ use Rattle.stream_ident.specs.declared.token.Token.{Token}
 abbrev pub same_token : Token → Token → Bool
 same_token a b = (a.seq == b.seq) && (a.idx == b.idx)
 
--- by the batch, then by the place in it
+-- by batch, then by index
 abbrev pub token_lt : Token → Token → Bool
 token_lt a b = nat_lt a.seq b.seq || ((a.seq == b.seq) && nat_lt a.idx b.idx)
 
--- two decimal numbers joined by a full stop
+-- the one spelling of a token: two decimal numbers joined by a full stop
 abbrev pub token_text : Token → List ℕ
 token_text token = decimal token.seq ++ 46 ∷ decimal token.idx
 
--- the numbers of a token have its widths
+-- a batch number below 2^64 and an index below 2^32
 pub record IsToken (token : Token) : Type 0 where
   pub seq : token.seq < 2 ^ 64
   pub idx : token.idx < 2 ^ 32
@@ -38,6 +38,6 @@ abbrev pub token_of_parts : Option (List ℕ × List ℕ) → Result Token BadTo
 token_of_parts None = Err (record {})
 token_of_parts (Some parts) = token_or (number_of parts.0) (narrowed (number_of parts.1))
 
--- the token that the bytes write
+-- the token that bytes write
 abbrev pub token_of : List ℕ → Result Token BadToken
 token_of bytes = token_of_parts (split_once 46 bytes)

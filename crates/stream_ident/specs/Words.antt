@@ -9,7 +9,7 @@ abbrev pub has_number : ℕ → Option ℕ → Bool
 has_number n None = false
 has_number n (Some m) = m == n
 
--- the least place of an element that passes, in a list whose first element has place n
+-- the first place whose element passes, in a list whose first element has place n
 abbrev pub first_at : {A : Type 0} → (A → Bool) → ℕ → List A → Option ℕ
 first_at passes n [] = None
 first_at passes n (x ∷ xs) = if passes x then Some n else first_at passes (suc n) xs
@@ -19,6 +19,7 @@ abbrev pub past_from : ℕ → List ℕ → ℕ
 past_from n [] = n
 past_from n (position ∷ positions) = past_from (suc position) positions
 
+-- one past the last of rising positions, 0 where there is none
 abbrev pub past : List ℕ → ℕ
 past positions = past_from 0 positions
 
@@ -32,6 +33,7 @@ abbrev pub lesser : {A : Type 0} → (A → A → Bool) → A → Option A → A
 lesser lt a None = a
 lesser lt a (Some b) = if lt b a then b else a
 
+-- the least element of a list, if any
 abbrev pub least : {A : Type 0} → (A → A → Bool) → List A → Option A
 least lt [] = None
 least lt (x ∷ xs) = Some (lesser lt x (least lt xs))
@@ -78,7 +80,7 @@ keys_where passes entries = map (λ entry. entry.0) (filter (λ entry. passes en
 abbrev pub place_of : {K V : Type 0} → (K → K → Bool) → K → List (K × V) → Option ℕ
 place_of same key entries = first_at (λ entry. same key entry.0) 0 entries
 
--- the value at a place changed
+-- a list with one value changed
 abbrev pub change_at : {K V : Type 0} → (V → V) → ℕ → List (K × V) → List (K × V)
 change_at change n [] = []
 change_at change zero (entry ∷ entries) = (entry.0, change entry.1) ∷ entries
@@ -88,7 +90,7 @@ change_at change (suc n) (entry ∷ entries) = entry ∷ change_at change n entr
 abbrev pub with_new : {K V : Type 0} → (K → K → Bool) → List (K × V) → K × V → List (K × V)
 with_new same entries entry = if is_some (value_at same entry.0 entries) then entries else entries ++ entry ∷ []
 
--- a call did what its definition says, or it failed to allocate and nothing has changed
+-- the call did what its definition says, or failed to allocate and changed nothing
 abbrev pub Performs : {S R : Type 0} → S → S → Result R AllocError → S × R → Type 0
 Performs old new (Ok told) stepped = (new, told) ≡ stepped
 Performs old new (Err e) stepped = new ≡ old

@@ -16,17 +16,17 @@ abbrev pub AlwaysWithBlocks : (List Entry → PlainPartition → Type 0) → Typ
 AlwaysWithBlocks P =
     (blocks : ℕ) (limits : Limits) (history : List Entry) (p : PlainPartition) → 1 ≤ blocks → Stands blocks limits history p → P history p
 
--- A drain ends, and no reply on its way is another than those that it looks for.
+-- A drain ends, and meets no unforeseen reply.
 abbrev pub DrainEnds : Type 0
 DrainEnds = AlwaysWithBlocks (λ history p. (drain p).1 ≢ None)
 
--- What it leaves stands for the history with its operations appended.
+-- What a drain leaves stands for the history with its operations appended.
 abbrev pub DrainStands : Type 0
 DrainStands =
     (blocks : ℕ) (limits : Limits) (history : List Entry) (p : PlainPartition) → Stands blocks limits history p
     → Stands blocks limits (history ++ (drain p).0.entries) (drain p).0.now
 
--- After Drained the partition is quiet.
+-- After `Drained` the partition is quiet.
 abbrev pub DrainedIsQuiet : Type 0
 DrainedIsQuiet = AlwaysWithBlocks (λ history p. (turns : ℕ) → (drain p).1 ≡ Some (ending.Drained turns) → quiet (drain p).0.now ≡ IsQuiet)
 
@@ -38,8 +38,8 @@ abbrev pub sum_open : (SubName → ℕ) → List (SubName × Subscription) → �
 sum_open f [] = 0
 sum_open f (entry ∷ entries) = (if entry.1.is_open then f entry.0 else 0) + sum_open f entries
 
--- The turns are as many as what was owed less what was handled, over the open subscriptions, those that
--- the drain itself makes among them.
+-- After `Drained` there was a turn for each event that open subscriptions were owed and hadn't handled, those
+-- subscriptions that the drain itself makes among them.
 abbrev pub DrainedTurns : Type 0
 DrainedTurns =
     AlwaysWithBlocks (λ history p. (turns : ℕ) → (drain p).1 ≡ Some (ending.Drained turns)

@@ -1,5 +1,6 @@
--- What holds of every legal history, from the definitions alone. A history stands as it is told, its oldest
--- entry first.
+-- What holds of every legal history, from the definitions alone: of every list of operations, whatever is
+-- repeated, stale, moved or deactivated. No law says that anything ever happens. A history stands as it is
+-- told, its oldest entry first.
 use Rattle.std.specs.Prelude.{◌≡◌, ◌≢◌, ◌⊎◌, ℕ, ◌+◌, ◌-◌, ◌*◌, ◌/◌, ◌≤◌, ◌<◌, min, max, Bool, true, false, ◌&&◌, not, List, [], ◌∷◌, ◌++◌, length, map, take, drop, zip, All, AllPairs, Some, None, is_some, ◌==◌}
 use Rattle.std.specs.List.{AllByRecursion, list_any}
 use Rattle.stream_ident.specs.declared.event.Event.{Event}
@@ -51,12 +52,13 @@ TokensRiseAlong events =
     AllPairs (λ earlier later. token_lt earlier.token later.token ≡ true) events
     × AllPairs (λ earlier later. earlier.token ≢ later.token) events
 
--- Nothing is owed twice, and nothing is handled twice.
+-- Tokens rise along what is owed and what is handled: nothing is owed twice, and nothing is handled twice.
+-- Not said: that an event is in one turn alone.
 abbrev pub NoneTwice : Type 0
 NoneTwice =
     Always (λ history p. (s : SubName) → TokensRiseAlong (owed_events history s) × TokensRiseAlong (handled_events history s))
 
--- Nothing is handled after the unsubscribe.
+-- Handled events stay the same after the unsubscribe. A turn may still run; its commit is answered `Closed`.
 abbrev pub NoneAfterClose : Type 0
 NoneAfterClose =
     (blocks : ℕ) (limits : Limits) (before later : List Entry) (p : PlainPartition) → Stands blocks limits (before ++ later) p
@@ -69,10 +71,11 @@ IsBegunOnce before e =
     (grain : GrainId) (activation turn note : ℕ) (s : SubName) (token : Token)
     → e.op ≡ Commit grain activation turn note → e.reply ≡ Committed s token → times_begun before turn ≡ 1
 
+-- A commit's number is that of exactly one turn begun before it. Not said: that the turn was of that grain.
 abbrev pub CommitsBegun : Type 0
 CommitsBegun = AtEach IsBegunOnce
 
--- No number of a turn is given twice, and none is committed twice.
+-- No turn's number is given or committed twice. A lost event may be handed out again.
 abbrev pub CommittedOnce : Type 0
 CommittedOnce = Always (λ history p. (turn : ℕ) → (times_begun history turn ≤ 1) × (times_committed history turn ≤ 1))
 
@@ -83,7 +86,7 @@ IsNextTurn before s events note =
     × (events ≡ take (length events) (drop (length (handled_events before s)) (owed_events before s)))
     × (note ≡ last_note before s)
 
--- Each turn goes on where what was handled ends.
+-- A turn has 1 to 16 events, the next that its subscription is owed, and the note of its last commit.
 abbrev pub TurnsInOrder : Type 0
 TurnsInOrder =
     AtEach (λ before e. (s : SubName) (activation turn note : ℕ) (events : List Event)
@@ -101,7 +104,7 @@ ends grain number (Commit g activation turn note) Closed = same_grain grain g &&
 ends grain number (Deactivate g) (Deactivated lost) = same_grain grain g
 ends grain number _ _ = false
 
--- One turn of a grain runs at a time: between the begins of two the first of them is ended.
+-- Between the begins of two turns of a grain the first was ended, by its commit or a deactivation.
 abbrev pub OneTurnAtATime : Type 0
 OneTurnAtATime =
     (blocks : ℕ) (limits : Limits) (before : List Entry) (first : Entry) (between : List Entry) (second : Entry) (later : List Entry) (p : PlainPartition)
@@ -121,7 +124,7 @@ pub record IsTurnFront (mailbox : List Delivery) (most : ℕ) (s : SubName) (n :
   pub own : All (λ d. d.sub ≡ s) (take n mailbox)
   pub rising : AllPairs (λ earlier later. earlier.position < later.position) (take n mailbox)
 
--- A turn has the events of the longest front of the mailbox that may be one: its length is the greatest.
+-- A turn is the longest front of the mailbox that may be one.
 abbrev pub TurnsAreLongest : Type 0
 TurnsAreLongest =
     (p : PlainPartition) (grain : GrainId) (max_events : ℕ) (s : SubName) (activation turn note : ℕ) (events : List Event)
@@ -137,15 +140,14 @@ LogIsPublished = Always (λ history p. p.log ≡ published_events history)
 abbrev pub TokensRise : Type 0
 TokensRise = Always (λ history p. TokensRiseAlong (published_events history))
 
--- A record has the handled positions, the stream and the start that the history says.
+-- A record has the handled events, the stream and the start that the history says.
 abbrev pub RecordsAgree : Type 0
 RecordsAgree =
     Always (λ history p. (s : SubName) (r : Subscription) → sub_at p s ≡ Some r
     → (events_at p.log r.handled ≡ handled_events history s)
     × (binding_of history s ≡ Some (record { stream = r.stream; start = r.start })))
 
--- A record is open where its subscription isn't unsubscribed, and nowhere else. Its note is that of the
--- last commit.
+-- A record is open unless its subscription was unsubscribed, and has the last commit's note.
 abbrev pub RecordsAreOpen : Type 0
 RecordsAreOpen =
     Always (λ history p. (s : SubName) (r : Subscription) → sub_at p s ≡ Some r
@@ -163,15 +165,15 @@ gives number _ _ = false
 abbrev pub is_given : List Entry → ℕ → Bool
 is_given history number = list_any (λ e. gives number e.op e.reply) history
 
--- An explicit name has a record where a subscribe was answered with its number, and nowhere else. Without
--- one it is owed nothing and has handled nothing.
+-- An explicit name has a record exactly where a subscribe gave its number. Without one it is owed nothing and
+-- has handled nothing.
 abbrev pub UnknownHasNoRecord : Type 0
 UnknownHasNoRecord =
     Always (λ history p. (number : ℕ) → (is_some (sub_at p (name.Explicit number)) ≡ is_given history number)
     × (is_given history number ≡ false
     → (owed_events history (name.Explicit number) ≡ []) × (handled_events history (name.Explicit number) ≡ [])))
 
--- No number of a subscription is given twice.
+-- No number of a subscription is given twice. Not said: that numbers rise by one.
 abbrev pub NumbersAreNew : Type 0
 NumbersAreNew =
     AtEach (λ before e. (stream : StreamId) (grain : GrainId) (start : Start) (number : ℕ)
@@ -185,17 +187,18 @@ IsMissBelowLow before e =
     → (token_lt token (low_told before) ≡ true → (high : Token) × (e.reply ≡ Miss token (low_told before) high))
     × (token_lt token (low_told before) ≡ false → (requested low high : Token) → e.reply ≢ Miss requested low high)
 
+-- A start token is a miss exactly where it is below the low token last told. Not said: the high token of the
+-- refusal.
 abbrev pub MissesBelowLow : Type 0
 MissesBelowLow = AtEach IsMissBelowLow
 
--- A subscribe from the latest on is never a miss.
+-- A start at the latest is never a miss. Not said: that it is accepted.
 abbrev pub LatestIsNeverMissed : Type 0
 LatestIsNeverMissed =
     AtEach (λ before e. (stream : StreamId) (grain : GrainId) → e.op ≡ Subscribe stream grain Latest
     → (requested low high : Token) → e.reply ≢ Miss requested low high)
 
--- The cache begins no later than it ends, ends no later than what was published, and has no more events than
--- its blocks hold.
+-- The cache lies within what was published and holds no more events than its blocks do.
 abbrev pub CacheInBounds : Type 0
 CacheInBounds =
     (blocks : ℕ) (limits : Limits) (history : List Entry) (p : PlainPartition) → Stands blocks limits history p
@@ -234,7 +237,8 @@ IsLeast P n = P n × ((m : ℕ) → P m → n ≤ m)
 abbrev pub IsKept : PlainPartition → ℕ → Type 0
 IsKept p blocks = min p.high (slowest p) < p.low + BLOCK_EVENTS * blocks + BLOCK_EVENTS
 
--- A pull drops the least number of blocks such that there is room, or the next one has to be kept.
+-- A pull drops the fewest blocks that make room, or as many as it may, and none that ends past the cache's
+-- end or the slowest resume.
 abbrev pub DropsAreLeast : Type 0
 DropsAreLeast =
     (p : PlainPartition) (want : ℕ) → IsLeast (λ blocks. (want ≤ room p + BLOCK_EVENTS * blocks) ⊎ IsKept p blocks) (drops p want)
@@ -243,8 +247,8 @@ DropsAreLeast =
 abbrev pub blocks_after : PlainPartition → ℕ → ℕ
 blocks_after p blocks = (p.high - (p.low + BLOCK_EVENTS * blocks) + (BLOCK_EVENTS - 1)) / BLOCK_EVENTS
 
--- A purge drops the least number of blocks such that no more than those to keep are left, or the next
--- one has to be kept.
+-- A purge drops the fewest blocks that leave as many as asked, or as many as it may, and none that ends past
+-- the cache's end or the slowest resume.
 abbrev pub PurgesAreLeast : Type 0
 PurgesAreLeast =
     (p : PlainPartition) (keep : ℕ) → IsLeast (λ blocks. (blocks_after p blocks ≤ keep) ⊎ IsKept p blocks) (purges p keep)
@@ -253,23 +257,23 @@ PurgesAreLeast =
 abbrev pub entries_of : List Op → List Reply → List Entry
 entries_of ops replies = map (λ told. record { op = told.0; reply = told.1 }) (zip ops replies)
 
--- What comes after a legal history goes on with it, whether it is told by its entries or by the operations
--- that were run.
+-- What leads on from a legal history makes a legal history, whether it is told by its entries or by the
+-- operations that were run.
 pub record HistoriesGrow : Type 0 where
   pub led : (blocks : ℕ) (limits : Limits) (before later : List Entry) (p q : PlainPartition)
       → Stands blocks limits before p → Leads p later q → Stands blocks limits (before ++ later) q
   pub run : (blocks : ℕ) (limits : Limits) (before : List Entry) (p : PlainPartition) (ops : List Op)
       → Stands blocks limits before p → Stands blocks limits (before ++ entries_of ops (replies_of p ops)) (after_steps p ops)
 
--- A front of a legal history is legal, and the rest of it leads on from what the front leaves.
+-- Every front of a legal history is legal, and the rest leads on from what the front leaves.
 abbrev pub FrontsAreLegal : Type 0
 FrontsAreLegal =
     (blocks : ℕ) (limits : Limits) (before later : List Entry) (q : PlainPartition) → Stands blocks limits (before ++ later) q
     → (p : PlainPartition) × Stands blocks limits before p × Leads p later q
 
--- What a history promises: each subscription handles what it is owed in order and no event twice, and
--- nothing after its unsubscribe; each commit has the number of exactly one turn before it, and no number is committed
--- twice; and a start token is refused exactly where it is below the low token.
+-- In this history each subscription has handled a prefix of what it is owed, whose tokens rise, and nothing
+-- after its unsubscribe. A commit's number is that of exactly one turn begun before it, and no turn is
+-- committed twice. A start token is a miss exactly where it is below the low token last told.
 pub record IsOneHistory (history : List Entry) : Type 0 where
   pub in_order : (s : SubName) → IsPrefixOf (handled_events history s) (owed_events history s)
   pub once : (s : SubName) → TokensRiseAlong (owed_events history s)
@@ -279,6 +283,7 @@ pub record IsOneHistory (history : List Entry) : Type 0 where
   pub committed : (turn : ℕ) → times_committed history turn ≤ 1
   pub misses : (before : List Entry) (e : Entry) (later : List Entry) → history ≡ before ++ e ∷ later → IsMissBelowLow before e
 
--- Every legal history does.
+-- Each legal history is `IsOneHistory`: it keeps `HandledInOrder`, `NoneTwice`, `NoneAfterClose`,
+-- `CommitsBegun` and `MissesBelowLow`, and commits no turn twice.
 abbrev pub OneHistory : Type 0
 OneHistory = Always (λ history p. IsOneHistory history)

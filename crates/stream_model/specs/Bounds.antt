@@ -29,8 +29,8 @@ abbrev pub running_positions : Option RunningTurn → List ℕ
 running_positions None = []
 running_positions (Some run) = run.positions
 
--- The lists never pass their limits, the numbers of turns, activations and generations never pass the
--- rises, no explicit number is ahead of the last, and what waits, runs or is handled is in the log.
+-- The lists never pass their limits, the numbers of turns, activations and generations never pass the rises,
+-- no explicit number is ahead of the last, and what waits, runs or is handled lies in the log.
 pub record IsWithinLimits (p : PlainPartition) : Type 0 where
   pub limits : AreLimits p.limits
   pub events : length p.log ≤ p.limits.events

@@ -179,12 +179,14 @@ abbrev pub drain_where : PlainPartition → Option GrainId → Progress × Optio
 drain_where p (Some g) = (done p, Some (ending.Stuck g))
 drain_where p None = (drain_all p, drain_end (drain_all p).stop (commits (drain_all p).entries))
 
--- Stuck, with nothing changed, where a turn runs
+-- Does all that is left, in turns of one event: what waits, what open subscriptions are owed, a Pull of at
+-- most 32, and again until the queue is dry. It is stuck, with nothing changed, where a turn runs, and ends
+-- early at `TooMany` or `Spent`.
 unfoldable pub drain : PlainPartition → Progress × Option DrainEnd
 drain p = drain_where p (least grain_lt (keys_where is_running p.grains))
 
--- A drain was done as the definition says, or memory was wanting: then the first of its operations are
--- done, and no other. Where a legal history leads to the partition no drain goes astray.
+-- A drain did this, or failed to allocate: then the first of its operations are done, and no other. Where a
+-- legal history leads to the partition no drain goes astray.
 abbrev pub DrainsTo : PlainPartition → PlainPartition → Result DrainEnd AllocError → Type 0
 DrainsTo old new (Ok end) = (new ≡ (drain old).0.now) × ((drain old).1 ≡ Some end)
 DrainsTo old new (Err e) = (entries : List Entry) × IsPrefixOf entries (drain old).0.entries × Leads old entries new

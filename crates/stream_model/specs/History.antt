@@ -8,15 +8,16 @@ use Rattle.stream_ident.specs.declared.token.Token.{Token}
 pub use Rattle.stream_model.specs.NewestFirst.{Entry, Binding}
 use Rattle.stream_model.specs.NewestFirst as newest
 
--- the events that were published, in the order of the queue
+-- the events of accepted batches, in the order of the queue; batches are numbered from 0
 abbrev pub published_events : List Entry → List Event
 published_events history = newest.published_events (reverse history)
 
--- the stream and the start of a name, where it is known
+-- A subscription's stream and start token, where it is known. The start is the one that was asked for, or the
+-- number of batches when it or its rule came.
 abbrev pub binding_of : List Entry → SubName → Option Binding
 binding_of history s = newest.binding_of (reverse history) s
 
--- the events that a subscription is owed, in the order of the queue
+-- the published events of its stream whose token isn't below its start, in the order of the queue
 abbrev pub owed_events : List Entry → SubName → List Event
 owed_events history s = newest.owed_events (reverse history) s
 
@@ -32,11 +33,11 @@ is_closed history s = newest.is_closed (reverse history) s
 abbrev pub last_note : List Entry → SubName → ℕ
 last_note history s = newest.last_note (reverse history) s
 
--- the low token that was told last
+-- the low token that was told last, 0.0 before the first
 abbrev pub low_told : List Entry → Token
 low_told history = newest.low_told (reverse history)
 
--- how often a turn of this number was handed out
+-- how often a turn of this number was given
 abbrev pub times_begun : List Entry → ℕ → ℕ
 times_begun history turn = newest.times_begun (reverse history) turn
 

@@ -18,6 +18,7 @@ use Rattle.stream_ident.specs.Words.{or_else, least, next_after, past, keys_wher
 abbrev pub is_waiting : Grain → Bool
 is_waiting st = nat_lt 0 (length st.mailbox)
 
+-- a grain runs a turn
 abbrev pub is_running : Grain → Bool
 is_running st = is_some st.running
 
@@ -62,7 +63,7 @@ abbrev pub running : Option GrainId → Option Pending
 running None = None
 running (Some g) = Some (pending.Running g)
 
--- why a partition isn't quiet, the first that holds
+-- the first reason why the partition isn't quiet
 abbrev pub pending_in : PlainPartition → Option Pending
 pending_in p =
     or_else (behind p)
@@ -74,5 +75,6 @@ abbrev pub quiet_reply : Option Pending → Reply
 quiet_reply None = reply.IsQuiet
 quiet_reply (Some why) = reply.NotQuiet why
 
+-- the reply to Quiet
 unfoldable pub quiet : PlainPartition → Reply
 quiet p = quiet_reply (pending_in p)

@@ -20,7 +20,8 @@ is_first p (Pull generation max_events) = nat_lt (length p.subs) (length (pull p
 is_first p (Deliver generation s) = is_untouched p s (sub_at p s)
 is_first p _ = true
 
--- Of the operations that keep more than before, a Pull takes memory for the subscriptions that it makes
--- alone, and a Deliver only for an untouched subscription. All others, each refusal among them, take none.
+-- A step with a reply that takes memory, save a Pull that makes no subscription, and a Deliver unless its
+-- subscription has nothing handled or on its way, and its cursor at its resume. All others, each refusal
+-- among them, take none.
 abbrev pub may_allocate : PlainPartition → Op → Bool
 may_allocate p op = takes_memory (step p op).1 && is_first p op

@@ -1,4 +1,5 @@
--- Positions on the log of a plain partition.
+-- Positions on the log of a plain partition. A partition has one log of events, positions in it, and a record
+-- for each subscription and grain. Its cache is the positions from `low` up to `high`, in blocks of 64.
 use Rattle.std.specs.Prelude.{ℕ, ◌-◌, Bool, true, false, ◌&&◌, ◌||◌, not, List, [], ◌∷◌, length, get_or, take, drop, map, filter, Option, Some, None, unwrap_or, ◌==◌, nat_lt, nat_le, if◌then◌else◌}
 use Rattle.stream_ident.specs.declared.event.Event.{Event}
 use Rattle.stream_ident.specs.declared.ident.GrainId.{GrainId}
@@ -42,9 +43,11 @@ empty blocks limits =
 abbrev pub token_at : PlainPartition → ℕ → Token
 token_at p position = get_or (map (λ event. event.token) p.log) position (batch_token p.batches)
 
+-- the token of the first event that the cache keeps, or would keep next
 abbrev pub low_token : PlainPartition → Token
 low_token p = token_at p p.low
 
+-- the token after the cache's last event
 abbrev pub high_token : PlainPartition → Token
 high_token p = token_at p p.high
 

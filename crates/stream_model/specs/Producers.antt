@@ -3,7 +3,8 @@ use Rattle.std.specs.Prelude.{Bool, true, false}
 use Rattle.stream_model.specs.declared.op.Op.{Op}
 use Rattle.stream_model.specs.declared.op.Op.TheVariants.{Publish, Subscribe, Unsubscribe, AddRule}
 
--- the operations that producers alone ask for; agents, workers and operators ask for the others
+-- Publish, Subscribe, Unsubscribe or AddRule: what producers alone ask for. Agents, workers and operators ask
+-- for the others.
 abbrev pub is_producer : Op → Bool
 is_producer (Publish stream payloads) = true
 is_producer (Subscribe stream grain start) = true

@@ -7,7 +7,7 @@ use Rattle.stream_model.specs.declared.reply.Reply.TheVariants as reply
 abbrev pub Reply : Type 0
 Reply = declared.Reply (List Event)
 
--- the same reply, with these events of a turn
+-- a reply with other events of its turn
 abbrev pub with_events : {E F : Type 0} → (E → F) → declared.Reply E → declared.Reply F
 with_events shown (reply.Published seq) = reply.Published seq
 with_events shown reply.QueueFull = reply.QueueFull
@@ -49,7 +49,7 @@ with_events shown reply.IsQuiet = reply.IsQuiet
 with_events shown (reply.NotQuiet why) = reply.NotQuiet why
 with_events shown (reply.Turn sub activation turn events note) = reply.Turn sub activation turn (shown events) note
 
--- it isn't a turn
+-- a reply that isn't a turn
 abbrev pub IsNoTurn : {E : Type 0} → declared.Reply E → Type 0
 IsNoTurn (reply.Turn sub activation turn events note) = ⊥
 IsNoTurn _ = Unit {0}

@@ -15,6 +15,7 @@ use Rattle.stream_model.specs.Publishing.{publish, subscribe, unsubscribe, add_r
 use Rattle.stream_model.specs.Pulling.{pull, deliver, retry, ack, purge, move}
 use Rattle.stream_model.specs.Turns.{begin, commit, deactivate}
 
+-- what an operation leaves, and its reply, with refusals in their order
 unfoldable pub step : PlainPartition → Op → PlainPartition × Reply
 step p (Publish stream payloads) = publish p stream payloads
 step p (Subscribe stream grain start) = subscribe p stream grain start
@@ -46,11 +47,12 @@ replies_of p (op ∷ ops) = (step p op).1 ∷ replies_of (step p op).0 ops
 abbrev pub Leads : PlainPartition → List Entry → PlainPartition → Type 0
 Leads p entries q = LeadsBy (λ (e : Entry). e.op) (λ (e : Entry). e.reply) step p entries q
 
--- the history, the oldest entry first, is legal, and p is what it leaves
+-- The history, the oldest entry first, is legal (each reply is that of its step), and leads to this
+-- partition.
 abbrev pub Stands : ℕ → Limits → List Entry → PlainPartition → Type 0
 Stands blocks limits history p = Leads (empty blocks limits) history p
 
--- a legal history leads to the partition
+-- some legal history leads to the partition
 pub record IsReached (p : PlainPartition) : Type 0 where
   pub blocks : ℕ
   pub limits : Limits
@@ -58,8 +60,8 @@ pub record IsReached (p : PlainPartition) : Type 0 where
   pub some_blocks : 1 ≤ blocks
   pub stands : Stands blocks limits history p
 
--- The replies of steps that keep more than before. Only these may want memory, and all others, each
--- refusal among them, are given without it.
+-- A reply after which more is kept than before. Only such a step may want memory; all others, each refusal
+-- among them, are given without it.
 abbrev pub takes_memory : Reply → Bool
 takes_memory (reply.Published seq) = true
 takes_memory (reply.Subscribed number) = true
@@ -69,7 +71,7 @@ takes_memory (reply.Delivered token) = true
 takes_memory (reply.Committed sub token) = true
 takes_memory _ = false
 
--- The operations that carry payloads. Only a copy of these may want memory.
+-- An operation that carries payloads. Only a copy of these may want memory.
 abbrev pub has_payloads : Op → Bool
 has_payloads (Publish stream payloads) = true
 has_payloads _ = false

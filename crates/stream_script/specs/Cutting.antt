@@ -9,7 +9,7 @@ use Rattle.stream_script.specs.Lexer.{pieces_of}
 use Rattle.stream_script.specs.Pieces.{Piece, IsLineOf}
 use Rattle.stream_script.specs.Reading.{is_skipped, reading}
 
--- the cutting gives just the pieces of which the line is made
+-- The cutting of a line gives just the words and texts of which it is made.
 abbrev pub FindsPieces : Type 0
 FindsPieces = (line : List ℕ) (pieces : List Piece) → (pieces_of line ≡ Some pieces) ↔ IsLineOf line pieces
 
@@ -17,11 +17,11 @@ FindsPieces = (line : List ℕ) (pieces : List Piece) → (pieces_of line ≡ So
 abbrev pub HasNoPieces : List ℕ → Type 0
 HasNoPieces line = (pieces : List Piece) → IsLineOf line pieces → ⊥
 
--- the cutting gives nothing just where there are none
+-- The cutting of a line gives nothing just where it isn't made of any.
 abbrev pub FindsNone : Type 0
 FindsNone = (line : List ℕ) → (pieces_of line ≡ None) ↔ HasNoPieces line
 
--- A line of printable bytes that isn't skipped, and of which there are no pieces, is a bad text.
+-- A printable line that isn't skipped, and that can't be cut into pieces, is a bad text.
 abbrev pub NoPiecesIsBadText : Type 0
 NoPiecesIsBadText =
     (queues number : ℕ) (mode : Mode) (line : List ℕ) → is_skipped line ≡ false → list_all is_printable line ≡ true → HasNoPieces line

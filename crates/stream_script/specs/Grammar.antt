@@ -119,6 +119,6 @@ MayStand mode.Run (Up silo) = Unit {0}
 MayStand mode.Run (Down silo) = Unit {0}
 MayStand mode.Run _ = ⊥
 
--- a line reads as a command: it is made of the command's pieces
+-- the grammar: the line spells this command
 abbrev pub Reads : Mode → ℕ → List ℕ → Command → Type 0
 Reads mode queues line command = MayStand mode command × (pieces : List Piece) × IsLineOf line pieces × IsSpelled queues pieces command

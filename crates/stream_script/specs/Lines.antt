@@ -15,6 +15,6 @@ cut_at_feeds (byte ∷ bytes) = if byte == 10 then [] ∷ cut_at_feeds bytes els
 abbrev pub without_return : List ℕ → List ℕ
 without_return line = if slice_index line (length line - 1) == 13 then take (length line - 1) line else line
 
--- the lines of a script
+-- a script cut at line feeds, each line without one carriage return at its end
 abbrev pub lines_of : List ℕ → List (List ℕ)
 lines_of script = map without_return (cut_at_feeds script)

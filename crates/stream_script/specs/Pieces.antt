@@ -29,7 +29,7 @@ abbrev pub escaped : List ℕ → List ℕ
 escaped [] = []
 escaped (byte ∷ bytes) = if is_special byte then 92 ∷ byte ∷ escaped bytes else byte ∷ escaped bytes
 
--- how a piece is written
+-- how a piece (a word or a text) is written
 abbrev pub spelling : Piece → List ℕ
 spelling (Word bytes) = bytes
 spelling (Text bytes) = 34 ∷ escaped bytes ++ 34 ∷ []

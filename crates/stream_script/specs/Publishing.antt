@@ -9,7 +9,7 @@ use Rattle.stream_script.specs.declared.parser.publish.Publish.{Publish}
 use Rattle.stream_script.specs.Pieces.{Piece, Word}
 use Rattle.stream_script.specs.Reading.{reading}
 
--- the line reads as the publish of these texts, whatever its number is and whatever the script is for
+-- the line publishes these texts, whatever its number is and whatever the script is for
 abbrev pub IsPublish : ℕ → List ℕ → Publish → List (List ℕ) → Type 0
 IsPublish queues bytes publish texts =
     (mode : Mode) (line : ℕ) → reading queues mode line bytes ≡ parsed.Command (Step publish.queue (op.Publish publish.stream texts))

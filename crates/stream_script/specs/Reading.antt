@@ -41,7 +41,8 @@ abbrev pub parsed_of : ℕ → Result Command FaultKind → Parsed
 parsed_of line (Ok command) = parsed.Command command
 parsed_of line (Err fault) = parsed.Fault (record { line = line; kind = fault })
 
--- what a line is, given the number of queues, what the script is for, and the line's number
+-- a line is skipped, a command, or its first fault, given the number of queues, what the script is for, and
+-- the line's number
 unfoldable pub reading : ℕ → Mode → ℕ → List ℕ → Parsed
 reading queues mode line bytes = if is_skipped bytes then parsed.Skip else parsed_of line (line_command mode queues bytes)
 
@@ -65,7 +66,7 @@ parsed_as (Ok true) command = parsed.Command command
 parsed_as (Ok false) command = parsed.Skip
 parsed_as (Err fault) command = parsed.Fault fault
 
--- an operation is on a queue that there is
+-- the command's queue exists
 abbrev pub IsWithin : ℕ → Parsed → Type 0
 IsWithin queues (parsed.Command (Step queue o)) = queue < queues
 IsWithin queues _ = ⊤

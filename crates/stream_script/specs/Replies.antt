@@ -29,6 +29,7 @@ pending_text (pending.Deliverable sub) = codes "deliverable " ++ name_text sub
 pending_text (pending.Waiting grain) = codes "waiting " ++ grain_text grain
 pending_text (pending.Running grain) = codes "running " ++ grain_text grain
 
+-- the text of a reply
 unfoldable pub reply_text : Reply → List ℕ
 reply_text (reply.Published seq) = codes "published " ++ decimal seq
 reply_text reply.QueueFull = codes "queue-full"
@@ -78,7 +79,7 @@ reply_text (reply.NotQuiet why) = pending_text why
 abbrev pub reply_line : ℕ → Reply → List ℕ
 reply_line queue told = decimal queue ++ 32 ∷ reply_text told ++ 10 ∷ []
 
--- the text of how a drain ended
+-- the text of the end of a drain
 unfoldable pub drain_text : DrainEnd → List ℕ
 drain_text (ending.Drained turns) = codes "drained " ++ decimal turns
 drain_text (ending.Stuck grain) = codes "stuck " ++ grain_text grain

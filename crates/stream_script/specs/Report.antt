@@ -39,6 +39,6 @@ abbrev pub report_from : ℕ → List PlainPartition → List ℕ
 report_from queue [] = []
 report_from queue (p ∷ partitions) = queue_report queue p ++ report_from (suc queue) partitions
 
--- the whole
+-- the report of all queues
 abbrev pub report_of : List PlainPartition → List ℕ
 report_of partitions = codes "report\n" ++ report_from 0 partitions

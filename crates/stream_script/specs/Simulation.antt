@@ -28,7 +28,7 @@ use Rattle.stream_script.specs.Reading.{reading}
 use Rattle.stream_script.specs.Replies.{reply_line, drain_line}
 use Rattle.stream_script.specs.Report.{report_of}
 
--- what the simulation may be asked for
+-- what a simulation may be asked for
 pub record IsSimConfig (config : SimConfig) : Type 0 where
   pub some_queues : 1 ≤ config.queues
   pub queues : config.queues ≤ MOST_QUEUES
@@ -109,7 +109,7 @@ run_script config script = run_lines config 1 (replicate config.queues (empty co
 abbrev pub too_long : Fault
 too_long = record { line = 0; kind = kind.TooLong }
 
--- the whole: a script that is too long writes nothing
+-- the text of a simulation, and the fault that ends it; a script that is too long writes nothing
 unfoldable pub simulation : SimConfig → List ℕ → Outcome
 simulation config script =
     if nat_lt 4194304 (length script) then record { text = []; fault = Some too_long } else run_script config script
@@ -123,7 +123,8 @@ Simulates old new outcome (Err error.WriteFault) = AppendsFront old new outcome.
 Simulates old new outcome (Err error.Memory) = AppendsFront old new outcome.text
 Simulates old new outcome (Err error.ReadFault) = Appends old new []
 
--- There is an input whose simulation was written. Which one it is can be told where the bytes of the source are known.
+-- The sink got what `Simulates` says, for some input. Which one it is can be told where the bytes of the
+-- source are known.
 abbrev pub SimulatesSome : Option (List ℕ) → Option (List ℕ) → SimConfig → Result Unit SimError → Type 0
 SimulatesSome old new config result = (input : List ℕ) × Simulates old new (simulation config input) result
 
@@ -147,7 +148,7 @@ Finishes fault (Err (error.ScriptFault found)) = fault ≡ Some found
 Finishes fault (Err error.WriteFault) = ⊤
 Finishes fault (Err _) = ⊥
 
--- what reading a script gives: all there is, or that it is too long
+-- all of a script was read, or it is too long
 abbrev pub ReadsScript : Option (List ℕ) → Option (List ℕ) → Result (Vec ℕ) SimError → Type 0
 ReadsScript old new (Ok script) = Consumes old new script.items × IsAtEnd new × (length script.items ≤ 4194304)
 ReadsScript old new (Err (error.ScriptFault fault)) = (fault ≡ too_long) × IfSome old (λ input. 4194304 < length input)
@@ -162,10 +163,12 @@ ReadsSome old new before after most (Err error.ReadFault) = ⊤
 ReadsSome old new before after most (Err error.Memory) = ⊤
 ReadsSome old new before after most (Err _) = ⊥
 
+-- the simulation ended because its source can't be read
 abbrev pub is_read_fault : {T : Type 0} → Result T SimError → Bool
 is_read_fault (Err error.ReadFault) = true
 is_read_fault _ = false
 
+-- the simulation ended because its sink can't be written
 abbrev pub is_write_fault : {T : Type 0} → Result T SimError → Bool
 is_write_fault (Err error.WriteFault) = true
 is_write_fault _ = false

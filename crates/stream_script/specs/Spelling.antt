@@ -10,11 +10,11 @@ use Rattle.stream_ident.specs.declared.ident.SubName.TheVariants as name
 abbrev pub stream_text : StreamId → List ℕ
 stream_text stream = stream.namespace ++ 47 ∷ stream.key
 
--- KIND/KEY
+-- how a grain is written: KIND/KEY
 abbrev pub grain_text : GrainId → List ℕ
 grain_text grain = grain.kind ++ 47 ∷ grain.key
 
--- a number, or KIND@NS/KEY
+-- how a subscription is written: a number, or KIND@NS/KEY
 abbrev pub name_text : SubName → List ℕ
 name_text (name.Explicit number) = decimal number
 name_text (name.Implicit kind stream) = kind ++ 64 ∷ stream_text stream

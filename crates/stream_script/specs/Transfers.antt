@@ -2,7 +2,7 @@
 use Rattle.std.specs.Prelude.{◌≡◌, ℕ, suc, List, ◌++◌, Option, Result, Ok, Err}
 use Rattle.std.specs.Io.KnownBytes.{Appends}
 
--- the failures after a call: a failed one counts
+-- the failed calls after one more: a failed one counts
 abbrev pub failures_after : {T E : Type 0} → ℕ → Result T E → ℕ
 failures_after before (Ok x) = before
 failures_after before (Err e) = suc before

@@ -48,7 +48,7 @@ use Rattle.streams.specs.declared.answers.Subscription.{Subscription}
 use Rattle.streams.specs.declared.answers.UnsubscribeError.{UnsubscribeError}
 use Rattle.streams.specs.declared.answers.UnsubscribeError.TheVariants as unsubscribe
 
--- the name of a subscription at its queue
+-- a subscription's name at its queue
 abbrev pub name_of : Subscription → SubName
 name_of s = Explicit s.number
 
@@ -59,14 +59,14 @@ start_for stream (from.At first) = if same_stream first.stream stream then Some 
 start_for stream (from.Token token) = Some (start.At token)
 start_for stream (from.Later token) = Some (start.At token)
 
--- the start token, where it may not be above the one that the next batch gets
+-- a start's token, where it may not be above that of the next batch
 abbrev pub checked_token : StartFrom → Option Token
 checked_token (from.At first) = Some first.token
 checked_token (from.Token token) = Some token
 checked_token _ = None
 
--- What a call comes to by what its answer says. An answer that says nothing is that a limit of the queue was met: behind
--- the call the queue was looked at, and its figures, of the partition that all calls leave which the pass has seen then,
+-- What an answer says. One that says nothing is that a limit of the queue was met: then the queue was looked
+-- at behind the call, and its figures, of the partition that all calls leave which the pass has seen then,
 -- say how much of the limit there is.
 abbrev pub ComesTo : {T E : Type 0} → Option (Result T E) → (QueueFigures → E) → List QueuePass → ℕ → Result T E → List QueuePass → Type 0
 ComesTo {T} {E} said met old queue result new =

@@ -61,7 +61,7 @@ pub record IsService (s : ServiceView) : Type 0 where
 abbrev pub IsNewService : Config → ServiceView → Type 0
 IsNewService config s = IsNew config s.cluster s.caller
 
--- a producer's passes are at the turnstiles of the service's queues
+-- a producer with passes at the turnstiles of the service's queues
 abbrev pub IsProducerOf : ServiceView → List QueuePass → Type 0
 IsProducerOf s passes = turnstiles passes ≡ turnstiles s.caller
 
@@ -97,8 +97,9 @@ Publishes old stream payloads result new =
 abbrev pub next_below : ℕ → Token → Option Token
 next_below batches start = if token_lt (batch_token batches) start then Some (batch_token batches) else None
 
--- A start token that may not be above the one that the next batch gets is compared with that, by the figures of the
--- partition that all calls leave which the pass at the queue has seen then. Where there is none, nothing is looked at.
+-- A start token that may not be above that of the next batch is compared with it at a look, by the figures of
+-- the partition that all calls leave which the pass at the queue has seen then. Where there is none, nothing
+-- is looked at.
 abbrev pub SeesNext : List QueuePass → ℕ → Option Token → Option Token → List QueuePass → Type 0
 SeesNext old queue checked result new =
     ((checked ≡ None) × (result ≡ None) × (new ≡ old))
@@ -119,11 +120,12 @@ pub record HasNoQueue {T E : Type 0} (old : List QueuePass) (queue : ℕ) (e : E
   pub refused : result ≡ Err e
   pub same : new ≡ old
 
+-- an unsubscribe was asked of the subscription's queue, or no queue has its number and nothing was asked
 abbrev pub Unsubscribes : List QueuePass → Subscription → Result ℕ UnsubscribeError → List QueuePass → Type 0
 Unsubscribes old sub result new =
     Reads read.unsubscribed old sub.queue (op.Unsubscribe (read.name_of sub)) result new ⊎ HasNoQueue old sub.queue unsubscribe.NoSuch result new
 
--- what is left to do at a queue was asked there
+-- A queue was asked what is left to do there, or no queue has this number and nothing was asked.
 abbrev pub AsksPending : List QueuePass → ℕ → Result (Option Pending) CallError → List QueuePass → Type 0
 AsksPending old queue result new = Reads read.pending_of old queue op.Quiet result new ⊎ HasNoQueue old queue call.NoQueue result new
 
@@ -131,12 +133,14 @@ AsksPending old queue result new = Reads read.pending_of old queue op.Quiet resu
 abbrev pub IsPast : List QueuePass → ℕ → List QueuePass → Type 0
 IsPast old queue new = (length old ≤ queue) × (new ≡ old)
 
--- the figures are those of the partition that all calls leave which the pass at the queue has seen then
+-- The figures of a queue are those of the partition that all calls leave which the pass there has seen at a
+-- look. They are none where no queue has this number.
 abbrev pub ReadsQueue : List QueuePass → ℕ → Option QueueFigures → List QueuePass → Type 0
 ReadsQueue old queue (Some figures) new = CallerLooks old queue (λ p. figures ≡ figures_of p) new
 ReadsQueue old queue None new = IsPast old queue new
 
--- and so are those of a subscription, none where it has no record there
+-- The figures of a subscription are read at such a look too. They are none where it has no record there, or
+-- no queue has this number.
 abbrev pub ReadsSubscription : List QueuePass → ℕ → SubName → Option SubscriptionFigures → List QueuePass → Type 0
 ReadsSubscription old queue sub result new = CallerLooks old queue (λ p. result ≡ subscription_figures_of p sub) new ⊎ ((result ≡ None) × IsPast old queue new)
 
@@ -148,7 +152,7 @@ TellsRule (suc more) queue op so_far old result new =
     ((e : CallError) × Reads read.rule_added old queue op (Err e) new × (result ≡ Err e))
     ⊎ ((added : Bool) × (mid : List QueuePass) × Reads read.rule_added old queue op (Ok added) mid × TellsRule more (suc queue) op (so_far || added) mid result new)
 
--- each queue was told the rule, or as many until one refused it
+-- queues were told a rule in order, all of them, or up to one that refused it
 abbrev pub AddsRule : List QueuePass → List ℕ → List ℕ → Result Bool CallError → List QueuePass → Type 0
 AddsRule old kind namespace result new = TellsRule (length old) 0 (op.AddRule kind namespace) false old result new
 
@@ -165,6 +169,7 @@ pub record Comes (s : ServiceView) (silo : ℕ) (result : Result Unit SiloError)
   pub is : result ≡ read.came answer
   pub caller : t.caller ≡ s.caller
 
+-- a silo came, or the cluster said why not, or nothing was done
 abbrev pub ChangesUp : ServiceView → ℕ → Result Unit SiloError → ServiceView → Type 0
 ChangesUp s silo result t = Comes s silo result t ⊎ (HasNoSilo s silo result t ⊎ IsEnded silos.Ended s result t)
 
@@ -175,6 +180,7 @@ pub record Goes (s : ServiceView) (silo : ℕ) (result : Result Unit SiloError) 
   pub is : result ≡ read.went answer
   pub caller : t.caller ≡ s.caller
 
+-- a silo went, or the cluster said why not, or nothing was done
 abbrev pub ChangesDown : ServiceView → ℕ → Result Unit SiloError → ServiceView → Type 0
 ChangesDown s silo result t = Goes s silo result t ⊎ HasNoSilo s silo result t
 
@@ -182,8 +188,9 @@ ChangesDown s silo result t = Goes s silo result t ⊎ HasNoSilo s silo result t
 abbrev pub calls_of : ProofHistory Op Reply → List (Entry Op Reply)
 calls_of h = answered (recorded h.asked) (recorded h.replies)
 
--- The cluster has ended, and its caller was the one whose passes were taken in, beside those that had joined it. What is
--- left is what it hands back. Or there was no memory for its end, and nothing is left.
+-- The cluster has ended with this caller, whose passes were taken in beside those that had joined it. What is
+-- left, its report or why there is none, is what it hands back. Or memory ran out for its end, and nothing is
+-- left.
 abbrev pub Closes : ServiceView → Closed → Type 0
 Closes s closed =
     ((back : List SiloView) × (finished : Finished (ProofHistory Op Reply)) × HasFinished calls_of s.cluster (s.caller ∷ []) back finished × read.IsLeft finished closed)

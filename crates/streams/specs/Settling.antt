@@ -43,7 +43,7 @@ PublishesSome zero old new = new ≡ old
 PublishesSome (suc n) old new =
     (mid : List QueuePass) × (m : Message) × (first : StreamToken) × PublishesSome n old mid × Publishes mid m.stream (m.payload ∷ []) (Ok first) new
 
--- so many were; or some were, and the next one was refused
+-- messages were published in order, all of them, or up to one that was refused
 abbrev pub PublishesFrom : List QueuePass → Result ℕ Unpublished → List QueuePass → Type 0
 PublishesFrom old (Ok n) new = PublishesSome n old new
 PublishesFrom old (Err u) new = (n : ℕ) × (mid : List QueuePass) × PublishesSome n old mid × Publishes mid u.message.stream (u.message.payload ∷ []) (Err u.why) new

@@ -19,7 +19,7 @@ pub record IsBetween (s : SubState) (from high : ℕ) : Type 0 where
   pub behind : s.cursor ≤ high
   pub handled : past s.handled ≤ high
 
--- it is open and due, though the cache has nothing for it, and it has handled nothing past the end of the cache
+-- a due subscription for which the cache has nothing, and which has handled nothing past the end of the cache
 pub record IsIdle (cache : PlainCache) (s : SubState) (stream : StreamId) : Type 0 where
   pub between : IsBetween s cache.low (high cache)
   pub none : next_in cache s.cursor stream s.start ≡ None
@@ -35,7 +35,8 @@ pub record IsNextDue (high : ℕ) (t : PlainTable) (before number : ℕ) : Type 
   pub next : due_after high (Some (name_at t before)) (leaves_of t.registry.names t.states) ≡ Some (name_at t number)
   pub past : sub_lt (name_at t before) (name_at t number) ≡ true
 
--- the first catches up, and then so many more, each the next that is due after the one before, up to the last
+-- Subscriptions for which the cache has nothing catch up: the first, and then so many more, each the next due
+-- one after the one before, up to the last.
 abbrev pub CatchUp : PlainCache → PlainTable → PlainTable → ℕ → ℕ → ℕ → Type 0
 CatchUp cache old new first zero last = (last ≡ first) × CatchesUp cache old new first
 CatchUp cache old new first (suc more) last =

@@ -24,7 +24,7 @@ abbrev pub slowest_at : Option ℕ → List NamedLeaf → Option SubName
 slowest_at None leaves = None
 slowest_at (Some resume) leaves = least sub_lt (names_where (λ leaf. has_number resume leaf.resume) leaves)
 
--- the least by resume, and of those the least by name; none where none is open
+-- the least name with the least resume; none where none is open
 abbrev pub slowest : List NamedLeaf → Option SubName
 slowest leaves = slowest_at (least_resume leaves) leaves
 
@@ -37,6 +37,6 @@ resumes_below high (Some resume) = nat_lt resume high
 abbrev pub is_due : ℕ → NamedLeaf → Bool
 is_due high leaf = is_some leaf.resume && (leaf.is_unacknowledged || resumes_below high leaf.resume)
 
--- the least due name after the given one, else the least
+-- the next due name after a given one, else the least
 abbrev pub due_after : ℕ → Option SubName → List NamedLeaf → Option SubName
 due_after high after leaves = next_after sub_lt after (names_where (is_due high) leaves)

@@ -14,6 +14,7 @@ abbrev pub leaf_of : SubName × Registration → SubState → NamedLeaf
 leaf_of entry state =
     record { name = entry.0; resume = open_resume state.live state.resume; is_unacknowledged = is_unacknowledged state }
 
+-- each name, with the resume where it is open and whether something is unacknowledged
 abbrev pub leaves_of : List (SubName × Registration) → List SubState → List NamedLeaf
 leaves_of [] states = []
 leaves_of (entry ∷ entries) [] = []

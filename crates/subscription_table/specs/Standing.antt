@@ -12,7 +12,7 @@ use Rattle.ranked_index.specs.declared.resumes.Leaf.{Leaf}
 use Rattle.subscription_table.specs.LeavesOf.{open_resume}
 use Rattle.subscription_table.specs.Table.{PlainTable, registration_at, state_at}
 
--- each name has a state, which agrees with its registration, and its positions leave room for two more
+-- Each name has a state that agrees with its registration, and its positions leave room for two more.
 pub record AreRecords (t : PlainTable) : Type 0 where
   pub long : length t.states ≡ length t.registry.names
   pub starts : (i : ℕ) → i < length t.states → (state_at t i).start ≡ (registration_at t i).start
@@ -24,6 +24,7 @@ pub record AreRecords (t : PlainTable) : Type 0 where
 abbrev pub tags_of : List (SubName × Registration) → List ℕ
 tags_of names = map (λ entry. tag_of entry.1.stream) names
 
+-- the name of an entry
 abbrev pub name_of : SubName × Registration → SubName
 name_of entry = entry.0
 

@@ -29,6 +29,7 @@ pub record PlainTable : Type 0 where
   pub registry : PlainRegistry
   pub states : List SubState
 
+-- a table with no subscription and no rule
 abbrev pub empty : ℕ → ℕ → PlainTable
 empty most_names most_rules = record { registry = registry.empty most_names most_rules; states = [] }
 
@@ -36,12 +37,15 @@ empty most_names most_rules = record { registry = registry.empty most_names most
 abbrev pub no_state : SubState
 no_state = new_state (batch_token 0) 0
 
+-- the state of the subscription that has a number
 abbrev pub state_at : PlainTable → ℕ → SubState
 state_at t number = get_or t.states number no_state
 
+-- the name that has a number
 abbrev pub name_at : PlainTable → ℕ → SubName
 name_at t number = (get_or t.registry.names number no_entry).0
 
+-- the registration of the subscription that has a number
 abbrev pub registration_at : PlainTable → ℕ → Registration
 registration_at t number = (get_or t.registry.names number no_entry).1
 
@@ -49,10 +53,11 @@ registration_at t number = (get_or t.registry.names number no_entry).1
 abbrev pub number_of : PlainTable → SubName → Option ℕ
 number_of t s = place_of same_sub s t.registry.names
 
+-- one state changed
 abbrev pub with_state : PlainTable → ℕ → SubState → PlainTable
 with_state t number state = record t { states = set t.states number state }
 
--- one state changed, and what was told
+-- one state changed, with what a call answers
 abbrev pub stepped : {R : Type 0} → PlainTable → ℕ → SubState × R → PlainTable × R
 stepped t number (state, told) = (with_state t number state, told)
 
@@ -62,6 +67,7 @@ subscribed t position start (r, add_told.TooMany) = (t, add_told.TooMany)
 subscribed t position start (r, add_told.Added number) =
     (record { registry = r; states = t.states ++ new_state start position ∷ [] }, add_told.Added number)
 
+-- the registry's subscription more, with a state that has handled nothing
 abbrev pub subscribe : PlainTable → StreamId → GrainId → Token → ℕ → PlainTable × Added
 subscribe t stream grain start position = subscribed t position start (registry.add t.registry stream grain start)
 
@@ -74,7 +80,7 @@ implied_by t position (r, implied_told.TooMany) = (t, implied_told.TooMany)
 implied_by t position (r, implied_told.Implied) =
     (record { registry = r; states = t.states ++ new_states position (drop (length t.registry.names) r.names) }, implied_told.Implied)
 
--- those that the rules make of events, all or none
+-- the subscriptions that rules make of events are added, all or none, each with a state
 abbrev pub imply : PlainTable → List Event → ℕ → PlainTable × Implied
 imply t events position = implied_by t position (implying.imply t.registry events)
 
@@ -83,13 +89,14 @@ closed_by t number (r, close_told.Done) =
     (record { registry = r; states = set t.states number (closed (state_at t number)) }, close_told.Done)
 closed_by t number (r, told) = (t, told)
 
--- the subscription with a number is closed, as the registry allows
+-- the registry's closing of the subscription with a number, and of its state
 abbrev pub close : PlainTable → ℕ → PlainTable × Closing
 close t number = closed_by t number (registry.close t.registry (name_at t number))
 
 abbrev pub with_registry : {R : Type 0} → PlainTable → PlainRegistry × R → PlainTable × R
 with_registry t (r, told) = (record t { registry = r }, told)
 
+-- the registry's rule more; no state changes
 abbrev pub add_rule : PlainTable → List ℕ → List ℕ → ℕ → PlainTable × RuleAdded
 add_rule t kind namespace seq = with_registry t (registry.add_rule t.registry kind namespace seq)
 
@@ -97,10 +104,11 @@ add_rule t kind namespace seq = with_registry t (registry.add_rule t.registry ki
 abbrev pub rewound_open : SubState → SubState
 rewound_open s = record s { cursor = if s.live then s.resume else s.cursor }
 
+-- open cursors are back at their resumes
 abbrev pub rewound_all : PlainTable → PlainTable
 rewound_all t = record t { states = map rewound_open t.states }
 
--- the cursors of those with these numbers are back at their resumes, where they are open
+-- the open cursors of those with these numbers are back at their resumes
 pub record AreRewound (numbers : List ℕ) (old new : PlainTable) : Type 0 where
   pub names : new.registry ≡ old.registry
   pub long : length new.states ≡ length old.states

@@ -16,7 +16,7 @@ module _ {O R S : Type 0} where
   abbrev pub IsOf : Origin S → PassView O R S → Type 0
   IsOf t p = p.turnstile ≡ Some t
 
-  -- the pass had no turn, and has one now, and is else as before, save what it has seen
+  -- a pass without a turn has got one, and is else as before, save what it has seen
   abbrev pub HasEntered : Origin S → PassView O R S → PassView O R S → Type 0
   HasEntered t p q = (p.turn ≡ None) × (q ≡ record p { turnstile = None; turn = Some t; seen = q.seen })
 
@@ -28,23 +28,24 @@ module _ {O R S : Type 0} where
   abbrev pub first_pass : Origin S → PassView O R S
   first_pass t = record { turnstile = Some t; turn = None; number = 0; joined = []; made = 1; seen = [] }
 
-  -- the pass is as before, save what it has seen
+  -- a pass is as before, save what it has seen
   abbrev pub HasOnlySeen : PassView O R S → PassView O R S → Type 0
   HasOnlySeen p q = q ≡ record p { seen = q.seen }
 
-  -- the pass is as before, save that it knows of as many passes or more
+  -- a pass is as before, but may know of more passes
   abbrev pub HasOnlyMade : PassView O R S → PassView O R S → Type 0
   HasOnlyMade p q = (q ≡ record p { made = q.made }) × (p.made ≤ q.made)
 
-  -- a pass that was split off: it has seen as much, under a number of its own that is past all that were known
+  -- a new pass has seen as much, under one new number that is past all that were known
   abbrev pub IsSplitOff : PassView O R S → PassView O R S → Type 0
   IsSplitOff p q = (q ≡ record p { number = q.number; joined = []; made = q.number + 1 }) × (p.made ≤ q.number) × Foreign (q.number ∷ []) p.seen
 
-  -- the numbers of both, the greater count of passes, and the longer of what they have seen
+  -- a pass with the numbers of both, the greater count of passes, and the longer of what they saw
   abbrev pub joined_pass : PassView O R S → PassView O R S → PassView O R S
   joined_pass p q = record p { joined = p.joined ++ numbers_of q; made = max p.made q.made; seen = longer p.seen q.seen }
 
-  -- past what each had seen, the joined pass has seen none of its numbers, and they have no number in common
+  -- Neither of joined passes missed a call of its own: past what each had seen there is none with its
+  -- numbers. No number is in both.
   abbrev pub Agree : PassView O R S → PassView O R S → PassView O R S → Type 0
   Agree p q r = Claims (numbers_of p) p.seen r.seen × Claims (numbers_of q) q.seen r.seen × ShareNone (numbers_of p) (numbers_of q)
 
@@ -54,28 +55,31 @@ IsFull HistoryFull len limit = len ≡ limit
 IsFull Memory len limit = len < limit
 
 module _ {O R S : Type 0} where
-  -- what was seen, then calls of others
+  -- past what the pass had seen there are only calls of others
   abbrev pub Waited : PassView O R S → List (Entry O R) → Type 0
   Waited p seen = (between : List (Entry O R)) × (seen ≡ p.seen ++ between) × Foreign (numbers_of p) between
 
-  -- what was seen, then this call, and nothing between
+  -- past what the pass had seen there is its own call alone
   abbrev pub CalledNext : PassView O R S → O → R → List (Entry O R) → Type 0
   CalledNext p op r seen = seen ≡ p.seen ++ entry p.number op r ∷ []
 
-  -- what was seen, and nothing else. The history has `limit` entries where it is full, and else fewer
+  -- After a refusal the pass has seen nothing more. The history has `limit` entries where it is full, and
+  -- else fewer.
   abbrev pub FoundNone : Start S → PassView O R S → Refusal → List (Entry O R) → Type 0
   FoundNone x p e seen = (seen ≡ p.seen) × IsFull e (length seen) x.limit
 
 module _ {S O R : Type 0} (reply : S → O → R) (after : S → O → S) where
-  -- what was seen, then calls of others, then this call
+  -- past what a pass had seen there are calls of others and then its own, in one legal history within the
+  -- limit
   abbrev pub Called : Start S → PassView O R S → O → R → List (Entry O R) → Type 0
   Called x p op r seen = (between : List (Entry O R)) × (seen ≡ (p.seen ++ between) ++ entry p.number op r ∷ []) × Foreign (numbers_of p) between × IsLegal reply after x.state seen × (length seen ≤ x.limit)
 
-  -- what was seen, then calls of others. The history has `limit` entries where it is full, and else fewer
+  -- After a refusal there are only calls of others past what a pass had seen, in one legal history. It has
+  -- `limit` entries where it is full, and else fewer.
   abbrev pub Found : Start S → PassView O R S → Refusal → List (Entry O R) → Type 0
   Found x p e seen = (between : List (Entry O R)) × (seen ≡ p.seen ++ between) × Foreign (numbers_of p) between × IsLegal reply after x.state seen × IsFull e (length seen) x.limit
 
-  -- the pass has a turn, this is what it holds, and it has seen all of that
+  -- a pass has this turn, and has seen the whole history of its object
   pub record IsTurn (t : Origin S) (p : PassView O R S) (h : TurnView O R S) : Type 0 where
     pub turn : p.turn ≡ Some t
     pub whole : h.history ≡ p.seen
@@ -83,20 +87,20 @@ module _ {S O R : Type 0} (reply : S → O → R) (after : S → O → S) where
     pub object : h.state ≡ Some (replay reply after t.start.state p.seen)
     pub bounded : length p.seen ≤ t.start.limit
 
-  -- the object gave this reply, and the state after the op
+  -- the object gave this reply, and has the state after the op
   abbrev pub Does : TurnView O R S → O → R → TurnView O R S → Type 0
   Does h op r g = (s : S) × (h.state ≡ Some s) × (r ≡ reply s op) × (g.state ≡ Some (after s op))
 
-  -- One call of a pass. Answered: what it had seen, then calls of others, then this call. Refused: what it had
-  -- seen, then calls of others. What it has seen is legal.
+  -- One call of a pass: `Called` where it was answered, `Found` where it was refused, with the pass otherwise
+  -- as before. What it has seen is legal.
   pub record CallsBy (p : PassView O R S) (op : O) (result : Result R Refusal) (q : PassView O R S) : Type 0 where
     pub origin : Origin S
     pub of : p.turnstile ≡ Some origin
     pub only : HasOnlySeen p q
     pub call : MatchResult result (λ r. Called origin.start p op r q.seen) (λ e. Found origin.start p e q.seen)
 
-  -- The object was shown to a pass, and no call was made: it has seen what it had seen, then calls of others. What it has
-  -- seen is legal, and `Shows` holds of the state that all of it leaves.
+  -- The object was shown to a pass, and no call was made: it has seen what it had seen, then calls of others.
+  -- What it has seen is legal, and what was read is read of the state that all of it leaves.
   pub record LooksBy (p : PassView O R S) (Shows : S → Type 0) (q : PassView O R S) : Type 0 where
     pub origin : Origin S
     pub of : p.turnstile ≡ Some origin

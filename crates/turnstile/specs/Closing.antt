@@ -62,7 +62,8 @@ module _ {X S O R : Type 0} (reply : S → O → R) (after : S → O → S) (sta
     pub bounded : length history ≤ x.limit
 
 module _ {X H O R M S : Type 0} (entries : H → List (Entry O R)) (reply : S → O → R) (after : S → O → S) (state : X → S) where
-  -- the trace of all passes; or what was given comes back, and how many passes were made is now known; or nothing, but only where the first pass knew of none that is missing
+  -- `close` gives the trace of all passes. Or what was given comes back, and how many passes were made is now
+  -- known. Or, as `InUse`, it gives nothing, but only where the first pass knew of none that is missing.
   abbrev pub IsClosed : Origin S → List (PassView O R S) → Closed X O R H M S → Type 0
   IsClosed t ps (Traced done) = FromAll reply after state t.start ps (entries done.history) done.object
   IsClosed t ps (NotAll back) = (back.turnstile ≡ t) × (0 < back.missing) × FirstCounted ps back.passes.items (length (all_numbers ps) + back.missing)

@@ -17,12 +17,12 @@ total f [] = 0
 total f (v ∷ vs) = f v + total f vs
 
 module _ {S O R : Type 0} (reply : S → O → R) (after : S → O → S) where
-  -- the state after all calls
+  -- the state after a list of calls
   abbrev pub replay : S → List (Entry O R) → S
   replay s [] = s
   replay s (e ∷ es) = replay (after s e.op) es
 
-  -- each call got the reply that it gets there
+  -- each call has the reply that the object gives there
   abbrev pub IsLegal : S → List (Entry O R) → Type 0
   IsLegal s [] = Unit {0}
   IsLegal s (e ∷ es) = (e.reply ≡ reply s e.op) × IsLegal (after s e.op) es
@@ -53,6 +53,6 @@ module _ {O R : Type 0} where
   abbrev pub longer : List (Entry O R) → List (Entry O R) → List (Entry O R)
   longer xs ys = if nat_lt (length xs) (length ys) then ys else xs
 
-  -- a call by the pass of this number
+  -- a call by the pass with a number
   abbrev pub entry : ℕ → O → R → Entry O R
   entry k op r = record { number = k; op = op; reply = r }

@@ -6,12 +6,12 @@ use Rattle.turnstile.specs.declared.recorded.Recorded.{Recorded}
 use Rattle.turnstile.specs.declared.recorded.Recorded.TheVariants.{Nothing, Then'}
 use Rattle.turnstile.specs.History.{entry}
 
--- what was shown, in order
+-- what a `Recorded` was shown, in order
 abbrev pub recorded : {T : Type 0} → Recorded T → List T
 recorded Nothing = []
 recorded (Then' marker before last) = recorded before ++ last.value ∷ []
 
--- what was asked, each with its reply
+-- each call with its reply
 abbrev pub answered : {O R : Type 0} → List (Asked O) → List R → List (Entry O R)
 answered [] rs = []
 answered (a ∷ qs) [] = []

@@ -1,24 +1,17 @@
 #!/usr/bin/env python3
-"""Writes docs/CLAUSES.md: the public calls of each library, with what their comments and their contracts say.
-
-Without words the file is written. With --check it is compared with the sources: where they differ, one line names
-the first difference, and the status is 1.
-"""
+"""Writes out/CLAUSES.md: the public calls of each library, with what their comments and their contracts say."""
 
 import re
-import sys
-from itertools import zip_longest
 from pathlib import Path
 
 ROOT = Path(__file__).resolve().parent.parent
-PAGE = ROOT / "docs" / "CLAUSES.md"
+PAGE = ROOT / "out" / "CLAUSES.md"
 HEAD = """# The clauses
 
-`gate/guarantees.py` writes this page from the sources, and the gate compares it with them; nobody edits it. It has each
-public function of each library, the methods of public traits, and those methods of an `impl` of a trait that have
-clauses of their own. Beside each stands the first paragraph of its comment, and then its clauses as they stand in the
-code. [DEFINITIONS](DEFINITIONS.md) has the definitions that they name, and [GUARANTEES](GUARANTEES.md) says what they
-come to.
+`gate/clauses.py` writes this page from the sources. It has each public function of each library, the methods of public
+traits, and those methods of an `impl` of a trait that have clauses of their own. Beside each stands the first paragraph of
+its comment, and then its clauses as they stand in the code. [DEFINITIONS](../docs/DEFINITIONS.md) has the definitions that
+they name, and [GUARANTEES](../docs/GUARANTEES.md) says what they come to.
 """
 BLOCK = re.compile(r"(pub trait|(?:unsafe )?impl)\b")
 FUNCTION = re.compile(r"\s*(pub )?(?:const |unsafe )*fn (\w+)")
@@ -102,7 +95,7 @@ def names_from(module, top):
 
 
 def calls_of(source):
-    """The public calls of a crate: the name of each, its comment and its clauses."""
+    """The public calls of a crate: the name of each, its file, its comment and its clauses."""
     top = (source / "lib.rt").read_text()
     named = set(re.findall(r"\w+", " ".join(re.findall(r"^pub use ([^;]*);", top, re.M))))
     modules = set(re.findall(r"^pub mod (\w+);", top, re.M))
@@ -128,7 +121,7 @@ def calls_of(source):
                 title = f"`{name}::{match[2]}`" if owner else f"`{name}`"
                 title = f"`{module}::{title[1:]}" if is_public else title
                 title += f", of `{of_trait}`" if of_trait else ""
-                yield title, plain(comment_at(lines, at)), clauses
+                yield title, file, plain(comment_at(lines, at)), clauses
 
 
 def page():
@@ -136,24 +129,13 @@ def page():
     parts = [HEAD]
     for name, source in libraries():
         parts.append(f"\n## {name}\n\n{first_sentence(source)}\n")
-        for title, comment, clauses in calls_of(source):
+        for title, _, comment, clauses in calls_of(source):
             parts.append("\n" + f"**{title}.** {comment}".strip() + "\n")
             if clauses:
                 parts.append("\n```\n" + "\n".join(clauses) + "\n```\n")
     return "".join(parts)
 
 
-def check(said):
-    """The status: 0 where the file is what the sources say."""
-    there = PAGE.read_text() if PAGE.exists() else ""
-    for at, (one, other) in enumerate(zip_longest(there.split("\n"), said.split("\n")), 1):
-        if one != other:
-            print(f"docs/CLAUSES.md:{at}: {one!r}, where the sources say {other!r}; gate/guarantees.py writes it")
-            return 1
-    return 0
-
-
 if __name__ == "__main__":
-    if sys.argv[1:] == ["--check"]:
-        sys.exit(check(page()))
+    PAGE.parent.mkdir(exist_ok=True)
     PAGE.write_text(page())
