@@ -7,12 +7,12 @@ use Rattle.std.specs.declared.alloc.AllocError.{AllocError}
 use Rattle.stream_ident.proofs.WordLemmas.{All-at}
 use Rattle.silo_loops.specs.Lines.{QueuePass, places}
 use Rattle.silo_loops.specs.Silos.{IsSiloAt, SiloView}
-use Rattle.silo_threads.specs.Gathering.{AreAt}
-use Rattle.silo_threads.specs.Operators.{OperatorGoesOn, OperatorView}
+use Rattle.queue_callers.specs.Gathering.{AreAt}
+use Rattle.silo_operators.specs.Operators.{OperatorGoesOn, OperatorView}
 use Rattle.silo_threads.specs.Clusters.{AnswersRetire, ClusterView, IsNewParked, RunsOn}
-use Rattle.silo_threads.specs.declared.clusters.config.Config.{Config}
-use Rattle.silo_threads.specs.declared.clusters.cluster.Retired.{Retired}
-use Rattle.silo_threads.specs.declared.clusters.cluster.Retired.TheVariants as retired
+use Rattle.silo_threads.specs.declared.config.Config.{Config}
+use Rattle.silo_threads.specs.declared.cluster.Retired.{Retired}
+use Rattle.silo_threads.specs.declared.cluster.Retired.TheVariants as retired
 use Rattle.silo_threads.proofs.Standing.{all-remove, callers-on, lives-at, op-refl, silo-place, sits-on}
 
 -- the loops at the first place have their passes at the operator's turnstiles, and their silo lives

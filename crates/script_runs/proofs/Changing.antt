@@ -6,7 +6,7 @@ use Rattle.std.proofs.lemmas.List.Quantifiers.{all_pairs_remove}
 use Rattle.std.proofs.lemmas.Map.Views.{Contains-from_any}
 use Rattle.queue_balancer.specs.Balance.{HasNoDoubles}
 use Rattle.queue_balancer.proofs.CountLemmas.{HasNoDoubles-rest}
-use Rattle.silo_threads.proofs.Spreading.{one-more}
+use Rattle.silo_operators.proofs.Spreading.{one-more}
 use Rattle.stream_script.specs.declared.parser.command.Command.TheVariants as command
 use Rattle.script_runs.specs.ScriptReport.{live_after, refused_where}
 use Rattle.script_runs.specs.Told.{is_among}

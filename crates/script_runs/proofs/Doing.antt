@@ -1,9 +1,9 @@
 -- What a line does, by what it asks for.
 use Rattle.script_runs.proofs.Prelude.{IsErrAnd, QueuePass, gone-refl, zip-refl, op-refl, AnswersDown, AnswersUp, ClusterView, is_fixed, turnstiles, AllZip, HasGoneOn, Looks, LooksAWhile, LooksInVain, LooksQuiet, OperatorGoesOn, ◌≡◌, ◌≢◌, ◌≤◌, ℕ, inl, inr, true, false, List, Option, None, Result, Ok, Err, IfOk, refl, sym, ap, subst, ◌∙◌, true≢false, AllocError, is_producer, Op, op_of, Command, EachOp, HistoryFull}
-use Rattle.silo_threads.specs.declared.clusters.cluster.SiloDown.{SiloDown}
-use Rattle.silo_threads.specs.declared.clusters.cluster.SiloDown.TheVariants as down
-use Rattle.silo_threads.specs.declared.clusters.cluster.SiloUp.{SiloUp}
-use Rattle.silo_threads.specs.declared.clusters.cluster.SiloUp.TheVariants as up
+use Rattle.silo_threads.specs.declared.cluster.SiloDown.{SiloDown}
+use Rattle.silo_threads.specs.declared.cluster.SiloDown.TheVariants as down
+use Rattle.silo_threads.specs.declared.cluster.SiloUp.{SiloUp}
+use Rattle.silo_threads.specs.declared.cluster.SiloUp.TheVariants as up
 use Rattle.stream_script.specs.declared.parser.command.Command.TheVariants as command
 use Rattle.script_runs.specs.ScriptReport.{live_after}
 use Rattle.script_runs.specs.Told as script

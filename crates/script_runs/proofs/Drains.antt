@@ -1,8 +1,8 @@
 -- A line that drains tells nothing more, and why it is stopped.
 use Rattle.script_runs.proofs.Prelude.{QueuePass, all-at, zip-at, LooksAWhile, ProducesNone, ◌≡◌, ℕ, inr, List, Option, Some, None, refl, sym, subst, AllZip}
-use Rattle.silo_loops.specs.declared.advance.LoopEnd.{LoopEnd}
-use Rattle.silo_loops.specs.declared.advance.Over.{Over}
-use Rattle.silo_loops.specs.declared.advance.Over.TheVariants as over
+use Rattle.doorbells.specs.declared.loop_end.LoopEnd.{LoopEnd}
+use Rattle.doorbells.specs.declared.loop_end.Over.{Over}
+use Rattle.doorbells.specs.declared.loop_end.Over.TheVariants as over
 use Rattle.stream_script.specs.declared.parser.command.Command.TheVariants as command
 use Rattle.script_runs.specs.declared.producer.answer.Answer.TheVariants as answer
 use Rattle.script_runs.specs.Telling.{ProducesAlone, Tells}

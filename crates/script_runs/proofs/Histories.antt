@@ -4,17 +4,17 @@ use Rattle.stream_model.specs.declared.op.Op.TheVariants as op
 use Rattle.turnstile.specs.Passes.{Origin}
 use Rattle.silo_loops.specs.Silos.{GoOn, SiloView}
 use Rattle.silo_loops.proofs.Going.{goes-places}
-use Rattle.silo_threads.specs.declared.ending.asking.Quiet.{Quiet}
-use Rattle.silo_threads.specs.declared.ending.closing.Traces.{Traces}
-use Rattle.silo_threads.specs.declared.ending.finishing.Finished.{Finished}
-use Rattle.silo_threads.specs.declared.ending.finishing.Finished.TheVariants as finished
-use Rattle.silo_threads.proofs.Looking.{look-each}
-use Rattle.silo_threads.proofs.Splitting.{turnstiles-joined}
-use Rattle.silo_threads.specs.Calls.{AreAlike}
-use Rattle.silo_threads.specs.Closing.{AreTraces, IsTraceOf}
-use Rattle.silo_threads.specs.Finishing.{CameTo}
-use Rattle.silo_threads.specs.Gathering.{gathered, passes_of}
-use Rattle.silo_threads.specs.declared.clusters.config.Config.{Config}
+use Rattle.queue_callers.specs.declared.asking.Quiet.{Quiet}
+use Rattle.queue_callers.specs.declared.closing.Traces.{Traces}
+use Rattle.queue_callers.specs.declared.finishing.Finished.{Finished}
+use Rattle.queue_callers.specs.declared.finishing.Finished.TheVariants as finished
+use Rattle.queue_callers.proofs.Looking.{look-each}
+use Rattle.queue_callers.proofs.Splitting.{turnstiles-joined}
+use Rattle.queue_callers.specs.Calls.{AreAlike}
+use Rattle.queue_callers.specs.Closing.{AreTraces, IsTraceOf}
+use Rattle.queue_callers.specs.Finishing.{CameTo}
+use Rattle.queue_callers.specs.Gathering.{gathered, passes_of}
+use Rattle.silo_threads.specs.declared.config.Config.{Config}
 use Rattle.script_runs.specs.declared.runs.running.ScriptEnd.{ScriptEnd}
 use Rattle.script_runs.specs.declared.runs.running.ScriptEnd.TheVariants as end
 use Rattle.script_runs.specs.Runs.{AreLegal, IsLegalHistory, LeavesLegalTraces, run_end}

@@ -1,14 +1,15 @@
 -- The words of other crates that these proofs share, each with its home.
+pub use Rattle.queue_callers.proofs.Splitting.{line-turnstiles}
 pub use Rattle.shared_partition.specs.Partitions.{BeganEmpty, after, replied, told_of}
 pub use Rattle.silo_loops.proofs.Owning.{owns-foreign}
 pub use Rattle.silo_loops.specs.Lines.{LineView, QueuePass, places}
-pub use Rattle.silo_threads.proofs.GoneOn.{asks-foreign, called-on, gone-refl, gone-trans}
-pub use Rattle.silo_threads.proofs.Rows.{all-at, zip-at, zip-refl, zip-trans}
-pub use Rattle.silo_threads.proofs.Standing.{callers-on, line-turnstiles, lives-at, met-earlier, not-fixed, op-refl}
-pub use Rattle.silo_threads.specs.Calls.{CallerCalls, IsUnused, QueueCalls, joined_passes, turnstiles}
+pub use Rattle.queue_callers.proofs.GoneOn.{asks-foreign, called-on, gone-refl, gone-trans}
+pub use Rattle.silo_operators.proofs.Rows.{all-at, zip-at, zip-refl, zip-trans}
+pub use Rattle.silo_threads.proofs.Standing.{callers-on, lives-at, met-earlier, not-fixed, op-refl}
+pub use Rattle.queue_callers.specs.Calls.{CallerCalls, IsUnused, QueueCalls, joined_passes, turnstiles}
 pub use Rattle.silo_threads.specs.Clusters.{AnswersDown, AnswersUp, AreAtQueues, ClusterView, HasFinished, IsAtQueue, IsConfig, IsDown, IsNew, IsUp, MayGo, is_fixed}
-pub use Rattle.silo_threads.specs.Draining.{HasGoneOn, Looks, LooksAWhile, LooksInVain, LooksQuiet, ProducesNone}
-pub use Rattle.silo_threads.specs.Operators.{OperatorGoesOn}
+pub use Rattle.queue_callers.specs.Draining.{HasGoneOn, Looks, LooksAWhile, LooksInVain, LooksQuiet, ProducesNone}
+pub use Rattle.silo_operators.specs.Operators.{OperatorGoesOn}
 pub use Rattle.std.proofs.Common.{Bool, Contains, Err, IfErr, IfOk, List, None, Ok, Option, Result, Some, [], add-one, ap, append_assoc, arith, drop, false, filter, fold, get_or, if◌then◌else◌, inl, inr, is_some, length, length-append, map, min, nat_le, nat_lt, not, option_map, refl, remove, reverse, rules, subst, suc, sym, take, true, zero, zip, ℕ, ◌&&◌, ◌*◌, ◌++◌, ◌+◌, ◌-◌, ◌<◌, ◌==◌, ◌||◌, ◌∙◌, ◌∷◌, ◌≡◌, ◌≢◌, ◌≤◌, ◌⊎◌}
 pub use Rattle.std.proofs.lemmas.Bool.{and_from, and_parts, and_right, cond_both, eq-eqb, eqb-true, false≢true, le-leb, lt-leb, lt-ltb, ltb-false, ltb-true, ne_eqb, not-true, or_parts, or_right, true≢false}
 pub use Rattle.std.proofs.lemmas.List.{append-nil, length-map, map-append, map-id, reverse-append, take-append-drop}

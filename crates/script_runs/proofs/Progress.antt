@@ -3,7 +3,7 @@ use Rattle.script_runs.proofs.Prelude.{IsErrAnd, owns-foreign, QueuePass, asks-f
 use Rattle.std.proofs.lemmas.List.FromFn.{get_or-range_with_len, length-range_with_len}
 use Rattle.std.proofs.lemmas.List.Sums.{fold-append}
 use Rattle.queue_balancer.specs.Balance.{HasNoDoubles}
-use Rattle.silo_threads.proofs.Changing.{op-trans}
+use Rattle.silo_operators.proofs.Changing.{op-trans}
 use Rattle.stream_script.specs.declared.parser.command.Command.TheVariants as command
 use Rattle.script_runs.specs.declared.reader.line.Line.{Line}
 use Rattle.script_runs.specs.declared.reader.script_line.ScriptLine.{ScriptLine}

@@ -2,12 +2,12 @@
 use Rattle.script_runs.proofs.Prelude.{told_of, owns-foreign, QueuePass, asks-foreign, zip-at, turnstiles, ClusterView, HasFinished, IsAtQueue, IsConfig, IsNew, HasGoneOn, ◌≡◌, ℕ, suc, ◌+◌, inl, inr, true, List, [], ◌∷◌, ◌++◌, length, map, Contains, Some, refl, sym, ap, subst, ◌∙◌, add-one, arith, true≢false, append-nil, AllByRecursion, AllZip, flat_map, range_with_len, slice_get, All-weaken, is_producer, Reply, Op, PlainPartition, queue_report, report_from, numbers_of, Entry, codes}
 use Rattle.std.proofs.lemmas.Slice.Zip.{AllZip-long}
 use Rattle.stream_model.specs.Looks.{quiet}
-use Rattle.silo_threads.specs.declared.ending.finishing.Finished.{Finished}
-use Rattle.silo_threads.specs.declared.ending.finishing.Finished.TheVariants as finished
-use Rattle.silo_threads.specs.Closing.{AreTraces, IsTraceOf}
-use Rattle.silo_threads.specs.Finishing.{CallersAloneProduce, HasBegun, IsDone}
-use Rattle.silo_threads.proofs.Looking.{turnstiles-length}
-use Rattle.silo_threads.specs.declared.clusters.config.Config.{Config}
+use Rattle.queue_callers.specs.declared.finishing.Finished.{Finished}
+use Rattle.queue_callers.specs.declared.finishing.Finished.TheVariants as finished
+use Rattle.queue_callers.specs.Closing.{AreTraces, IsTraceOf}
+use Rattle.queue_callers.specs.Finishing.{CallersAloneProduce, HasBegun, IsDone}
+use Rattle.queue_callers.proofs.Looking.{turnstiles-length}
+use Rattle.silo_threads.specs.declared.config.Config.{Config}
 use Rattle.silo_loops.specs.Silos.{SiloView}
 use Rattle.stream_script.specs.declared.parser.command.Command.TheVariants as command
 use Rattle.script_runs.specs.declared.reader.line.Line.{Line}

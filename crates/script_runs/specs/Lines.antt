@@ -9,18 +9,18 @@ use Rattle.stream_model.specs.History as told
 use Rattle.turnstile.specs.declared.turnstile.Refusal.{Refusal}
 use Rattle.turnstile.specs.declared.turnstile.Refusal.TheVariants.{HistoryFull}
 use Rattle.silo_loops.specs.Lines.{QueuePass}
-use Rattle.silo_loops.specs.declared.advance.LoopEnd.{LoopEnd}
-use Rattle.silo_loops.specs.declared.advance.Over.{Over}
-use Rattle.silo_loops.specs.declared.advance.Over.TheVariants as over
-use Rattle.silo_threads.specs.Calls.{turnstiles}
-use Rattle.silo_threads.specs.Operators.{OperatorGoesOn}
+use Rattle.doorbells.specs.declared.loop_end.LoopEnd.{LoopEnd}
+use Rattle.doorbells.specs.declared.loop_end.Over.{Over}
+use Rattle.doorbells.specs.declared.loop_end.Over.TheVariants as over
+use Rattle.queue_callers.specs.Calls.{turnstiles}
+use Rattle.silo_operators.specs.Operators.{OperatorGoesOn}
 use Rattle.silo_threads.specs.Clusters.{ClusterView, HasMetLimit, is_fixed}
-use Rattle.silo_threads.specs.declared.clusters.cluster.SiloDown.{SiloDown}
-use Rattle.silo_threads.specs.declared.clusters.cluster.SiloDown.TheVariants as down
-use Rattle.silo_threads.specs.declared.clusters.cluster.SiloUp.{SiloUp}
-use Rattle.silo_threads.specs.declared.clusters.cluster.SiloUp.TheVariants as up
-use Rattle.silo_threads.specs.declared.ending.asking.Quiet.{Quiet}
-use Rattle.silo_threads.specs.Draining.{HasGoneOn, Looks, LooksAWhile, LooksInVain, LooksQuiet}
+use Rattle.silo_threads.specs.declared.cluster.SiloDown.{SiloDown}
+use Rattle.silo_threads.specs.declared.cluster.SiloDown.TheVariants as down
+use Rattle.silo_threads.specs.declared.cluster.SiloUp.{SiloUp}
+use Rattle.silo_threads.specs.declared.cluster.SiloUp.TheVariants as up
+use Rattle.queue_callers.specs.declared.asking.Quiet.{Quiet}
+use Rattle.queue_callers.specs.Draining.{HasGoneOn, Looks, LooksAWhile, LooksInVain, LooksQuiet}
 use Rattle.stream_script.specs.declared.parser.command.Command.{Command}
 use Rattle.stream_script.specs.declared.parser.command.Command.TheVariants as command
 use Rattle.stream_script.specs.Forms.{op_of}

@@ -10,16 +10,16 @@ use Rattle.turnstile.specs.declared.history.Entry.{Entry}
 use Rattle.turnstile.specs.History.{IsLegal, replay}
 use Rattle.shared_partition.specs.Partitions.{TellsOneHistory, after, replied, told_of}
 use Rattle.silo_loops.specs.Lines.{QueuePass}
-use Rattle.silo_threads.specs.Calls.{IsUnused, turnstiles}
-use Rattle.silo_threads.specs.declared.ending.closing.Traces.{Traces}
-use Rattle.silo_threads.specs.declared.ending.finishing.Finished.{Finished}
-use Rattle.silo_threads.specs.declared.ending.finishing.Finished.TheVariants as finished
-use Rattle.silo_threads.specs.declared.clusters.config.Config.{Config}
+use Rattle.queue_callers.specs.Calls.{IsUnused, turnstiles}
+use Rattle.queue_callers.specs.declared.closing.Traces.{Traces}
+use Rattle.queue_callers.specs.declared.finishing.Finished.{Finished}
+use Rattle.queue_callers.specs.declared.finishing.Finished.TheVariants as finished
+use Rattle.silo_threads.specs.declared.config.Config.{Config}
 use Rattle.silo_loops.specs.Silos.{SiloView}
 use Rattle.silo_threads.specs.Clusters.{ClusterView, HasFinished, IsNew, is_fixed}
-use Rattle.silo_threads.specs.Draining.{HasGoneOn}
-use Rattle.silo_threads.specs.Operators.{OperatorGoesOn}
-use Rattle.silo_threads.specs.declared.ending.asking.Quiet.TheVariants.{All}
+use Rattle.queue_callers.specs.Draining.{HasGoneOn}
+use Rattle.silo_operators.specs.Operators.{OperatorGoesOn}
+use Rattle.queue_callers.specs.declared.asking.Quiet.TheVariants.{All}
 use Rattle.script_runs.specs.declared.reader.line.Line.{Line}
 use Rattle.script_runs.specs.declared.reader.script_line.ScriptLine.{ScriptLine}
 use Rattle.script_runs.specs.declared.reader.script_line.ScriptLine.TheVariants as printed

@@ -15,8 +15,8 @@ use Rattle.turnstile.specs.Calls.{numbers_of}
 use Rattle.turnstile.specs.Passes.{Origin}
 use Rattle.shared_partition.specs.Partitions.{BeganEmpty, told_of}
 use Rattle.silo_loops.specs.Lines.{QueuePass}
-use Rattle.silo_threads.specs.Calls.{CallerCalls, QueueCalls}
-use Rattle.silo_threads.specs.Draining.{HasGoneOn}
+use Rattle.queue_callers.specs.Calls.{CallerCalls, QueueCalls}
+use Rattle.queue_callers.specs.Draining.{HasGoneOn}
 use Rattle.stream_script.specs.declared.parser.command.Command.{Command}
 use Rattle.script_runs.specs.declared.reader.line.Line.{Line}
 use Rattle.script_runs.specs.declared.reader.script_line.ScriptLine.{ScriptLine}

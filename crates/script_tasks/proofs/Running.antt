@@ -4,8 +4,8 @@ use Rattle.std.specs.Prelude.{IfSome}
 use Rattle.turnstile.specs.declared.asked.AskedHistory.{AskedHistory}
 use Rattle.turnstile.specs.declared.history.Entry.{Entry}
 use Rattle.stream_model.specs.declared.plain.PlainPartition.{PlainPartition}
-use Rattle.silo_threads.specs.declared.clusters.config.Config.{Config}
-use Rattle.silo_threads.specs.declared.ending.closing.Traces.{Traces}
+use Rattle.silo_threads.specs.declared.config.Config.{Config}
+use Rattle.queue_callers.specs.declared.closing.Traces.{Traces}
 use Rattle.script_runs.specs.declared.reader.line.Line.{Line}
 use Rattle.script_runs.specs.declared.reader.script_line.ScriptLine.{ScriptLine}
 use Rattle.script_runs.specs.declared.runs.outcome.RunEnd.{RunEnd}

@@ -21,8 +21,8 @@ use Rattle.script_runs.specs.Traces.{trace_text, traces_from}
 use Rattle.script_tasks.specs.declared.shown.Shown.{Shown}
 use Rattle.script_tasks.specs.declared.summary.Detail.{Detail}
 use Rattle.script_tasks.specs.declared.summary.Detail.TheVariants as detail
-use Rattle.silo_threads.specs.declared.ending.closing.Traces.{Traces}
-use Rattle.silo_threads.specs.declared.clusters.config.Config.{Config}
+use Rattle.queue_callers.specs.declared.closing.Traces.{Traces}
+use Rattle.silo_threads.specs.declared.config.Config.{Config}
 use Rattle.script_runs.specs.declared.runs.outcome.Ran.{Ran}
 use Rattle.script_runs.specs.declared.runs.outcome.RunEnd.{RunEnd}
 use Rattle.script_runs.specs.declared.runs.outcome.RunEnd.TheVariants as ends

@@ -3,7 +3,7 @@ use Rattle.std.specs.Prelude.{◌≡◌, ◌≢◌, ℕ, ◌-◌, ◌^◌, ◌<�
 use Rattle.stream_ident.specs.declared.limits.TheConstants.{MOST_BLOCKS, MOST_ENTRIES, MOST_QUEUES, MOST_SILOS}
 use Rattle.stream_script.specs.declared.parser.command.Mode.{Mode}
 use Rattle.stream_script.specs.declared.parser.command.Mode.TheVariants as mode
-use Rattle.silo_threads.specs.declared.clusters.config.Config.{Config}
+use Rattle.silo_threads.specs.declared.config.Config.{Config}
 use Rattle.silo_threads.specs.Clusters.{IsConfig, greatest_limits}
 use Rattle.script_runs.specs.declared.traces.trace.Calls.{Calls}
 use Rattle.script_runs.specs.declared.traces.trace.Calls.TheVariants as calls

@@ -4,7 +4,7 @@ use Rattle.std.proofs.Math.Seq.{map-set_same}
 use Rattle.std.specs.Prelude.{IfNone}
 use Rattle.silo_loops.specs.declared.advance.Advance.{Advance}
 use Rattle.silo_loops.specs.declared.advance.Advance.TheVariants as advance
-use Rattle.silo_loops.specs.declared.advance.Over.{Over}
+use Rattle.doorbells.specs.declared.loop_end.Over.{Over}
 use Rattle.silo_loops.specs.declared.worker_walk.Step.TheVariants as step
 use Rattle.silo_loops.specs.Walks.{Nothing, Work, WorkerState, work_in}
 use Rattle.silo_loops.specs.Agents.{AgentAdvancesFrom, AgentCalls, AgentCounts, AgentState, AgentView, HasSamePlaces, OnesPulled, agent_of}

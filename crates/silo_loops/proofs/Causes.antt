@@ -6,8 +6,8 @@ use Rattle.shared_partition.specs.Directories as places
 use Rattle.turnstile.specs.declared.turnstile.Refusal.TheVariants as refusal
 use Rattle.silo_loops.specs.declared.advance.Advance.{Advance}
 use Rattle.silo_loops.specs.declared.advance.Advance.TheVariants as advance
-use Rattle.silo_loops.specs.declared.advance.Over.{Over}
-use Rattle.silo_loops.specs.declared.advance.Over.TheVariants as over
+use Rattle.doorbells.specs.declared.loop_end.Over.{Over}
+use Rattle.doorbells.specs.declared.loop_end.Over.TheVariants as over
 use Rattle.silo_loops.specs.Agents.{AgentAdvancesFrom, AgentCalls, AgentEndsBy, AgentHasCause, AgentView}
 use Rattle.silo_loops.specs.Answers.{end_by, end_of, end_of_asking}
 use Rattle.silo_loops.specs.Passes.{CallsBy, IsAtLimit}

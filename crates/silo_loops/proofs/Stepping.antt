@@ -8,7 +8,7 @@ use Rattle.stream_ident.specs.declared.limits.TheConstants.{TURN_EVENTS}
 use Rattle.stream_model.specs.declared.op.Op.TheVariants as op
 use Rattle.activation_directory.specs.declared.op.DirectoryOp.{DirectoryOp}
 use Rattle.activation_directory.specs.declared.op.DirectoryOp.TheVariants as asked
-use Rattle.silo_loops.specs.declared.advance.Over.{Over}
+use Rattle.doorbells.specs.declared.loop_end.Over.{Over}
 use Rattle.silo_loops.specs.declared.heard.Heard.{Heard}
 use Rattle.silo_loops.specs.declared.worker_walk.Step.{Step}
 use Rattle.silo_loops.specs.declared.worker_walk.Step.TheVariants as step

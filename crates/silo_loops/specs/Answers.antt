@@ -10,31 +10,10 @@ use Rattle.turnstile.specs.declared.turnstile.Refusal.{Refusal}
 use Rattle.turnstile.specs.declared.turnstile.Refusal.TheVariants as refusal
 use Rattle.silo_loops.specs.declared.advance.Advance.{Advance}
 use Rattle.silo_loops.specs.declared.advance.Advance.TheVariants as advance
-use Rattle.silo_loops.specs.declared.advance.Over.{Over}
-use Rattle.silo_loops.specs.declared.advance.Over.TheVariants as over
+use Rattle.doorbells.specs.declared.loop_end.Over.{Over}
+use Rattle.doorbells.specs.declared.loop_end.Over.TheVariants as over
 use Rattle.silo_loops.specs.declared.heard.Heard.{Heard}
 use Rattle.silo_loops.specs.declared.heard.Heard.TheVariants as heard
-
--- answers of a queue after which a loop may find more to do
-abbrev pub rings : Reply → Bool
-rings (reply.Published seq) = true
-rings (reply.Subscribed number) = true
-rings (reply.Unsubscribed handled) = true
-rings (reply.RuleAdded from) = true
-rings (reply.Pulled count low high) = true
-rings (reply.Delivered token) = true
-rings reply.Rewound = true
-rings reply.Acked = true
-rings (reply.Committed sub token) = true
-rings (reply.Dropped sub token) = true
-rings (reply.Deactivated lost) = true
-rings (reply.Moved generation low) = true
-rings _ = false
-
--- answers of the directory after which a loop may find more to do
-abbrev pub directory_rings : DirectoryReply → Bool
-directory_rings directory.Left = true
-directory_rings _ = false
 
 -- how a refusal ends a loop
 abbrev pub end_by : Refusal → Over

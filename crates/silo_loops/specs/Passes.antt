@@ -6,8 +6,8 @@ use Rattle.turnstile.specs.Calls as turnstile
 use Rattle.turnstile.specs.Calls.{numbers_of}
 use Rattle.turnstile.specs.History.{Claims, Foreign, entry}
 use Rattle.turnstile.specs.Passes.{Origin, PassView}
-use Rattle.silo_loops.specs.declared.advance.Over.{Over}
-use Rattle.silo_loops.specs.declared.advance.Over.TheVariants.{Limit}
+use Rattle.doorbells.specs.declared.loop_end.Over.{Over}
+use Rattle.doorbells.specs.declared.loop_end.Over.TheVariants.{Limit}
 
 module _ {O R : Type 0} where
   -- no entry with one of these numbers is an operation that the test picks

@@ -3,11 +3,10 @@ ghost use Rattle.std.specs.Prelude.{◌≡◌, length, replicate, None, IfErr, I
 ghost use Rattle.silo_loops.specs.Agents.{AgentAdvances, AgentHasCause, AgentRuns, HasSamePlaces};
 ghost use Rattle.silo_loops.specs.Chains.{Visits};
 
-use crate::advance::{Advance, MOST_STEPS, Over};
+use crate::advance::{Advance, MOST_STEPS};
 use crate::agent_steps::Agent;
-use crate::assigned::Assigned;
-use crate::doorbell::Doorbell;
 use crate::line::Line;
+use doorbells::{Assigned, Doorbell, Over};
 use shared_partition::{Gate, QueueHistory};
 use std::alloc::Global;
 use std::marker::Model;

@@ -5,12 +5,10 @@ ghost use Rattle.silo_loops.specs.Answers.{over_of};
 ghost use Rattle.silo_loops.specs.Lines.{HasPulled, LineView, rested};
 ghost use Rattle.silo_loops.specs.Visiting.{IsVisiting};
 
-use crate::advance::{Advance, Over, told};
+use crate::advance::{Advance, told};
 use crate::agent_walk::Visit;
-use crate::assigned::Assigned;
-use crate::desk::{count_at, is_among, wait_at};
-use crate::doorbell::Doorbell;
 use crate::line::{Line, hear_at, keep_at, leave_at, rest_all};
+use doorbells::{Assigned, Doorbell, Over, count_at, is_among, wait_at};
 use shared_partition::{Gate, QueueHistory};
 use std::alloc::Global;
 use std::marker::Model;

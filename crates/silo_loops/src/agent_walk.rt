@@ -6,9 +6,8 @@ ghost use Rattle.silo_loops.specs.declared.agent_walk.AgentStep.TheVariants as s
 ghost use Rattle.silo_loops.specs.declared.heard.Heard.TheVariants as heard;
 ghost use Rattle.stream_model.specs.Producers.{is_producer};
 
-use crate::advance::Over;
-use crate::desk::QueueSet;
 use crate::heard::Heard;
+use doorbells::{Over, QueueSet};
 use stream_ident::{SubName, Token};
 use stream_model::Op;
 

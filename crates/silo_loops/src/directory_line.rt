@@ -5,8 +5,8 @@ ghost use Rattle.turnstile.specs.Calls.{Agree, HasOnlyMade, IsOf, IsSplitOff, jo
 ghost use Rattle.shared_partition.specs.Directories.{BeganEmpty};
 ghost use Rattle.silo_loops.specs.Lines.{DirectoryCalls};
 
-use crate::doorbell::{Bell, Doorbell, directory_rings};
 use activation_directory::{Directory, DirectoryOp, DirectoryReply};
+use doorbells::{Bell, Doorbell, directory_rings};
 use shared_partition::{DirectoryHistory, SharedDirectory};
 use std::alloc::{AllocError, Global};
 use std::marker::Model;

@@ -4,7 +4,8 @@ ghost use Rattle.step_core.specs.Replied.{Says};
 ghost use Rattle.stream_model.specs.Replies as replies;
 ghost use Rattle.silo_loops.specs.Answers.{heard_of, end_in};
 
-use crate::advance::{Over, end_by};
+use crate::advance::end_by;
+use doorbells::Over;
 use step_core::{Answer, Outcome, Reply};
 use stream_ident::{GrainId, SubName, Token};
 use turnstile::Refusal;

@@ -15,24 +15,20 @@ mod advance;
 mod agent;
 mod agent_steps;
 mod agent_walk;
-mod assigned;
 mod crew;
-mod desk;
 mod directory_line;
-mod doorbell;
 mod heard;
 mod line;
 mod worker;
 mod worker_steps;
 mod worker_walk;
 
-pub use advance::{Advance, LoopEnd, Over};
+pub use advance::Advance;
 pub use agent::AgentLoop;
-pub use assigned::Assigned;
 pub use crew::{
     AgentPromise, RunningSilo, SiloLoops, SiloTools, WorkerPromise, join_lines, split_lines,
 };
 pub use directory_line::DirectoryLine;
-pub use doorbell::{Doorbell, directory_rings, rings};
+pub use doorbells::{Assigned, Doorbell, LoopEnd, Over, directory_rings, rings};
 pub use line::Line;
 pub use worker::{TurnRoom, WorkerLoop};

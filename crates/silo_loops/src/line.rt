@@ -7,8 +7,8 @@ ghost use Rattle.shared_partition.specs.Partitions.{BeganEmpty, IsOfEmpty};
 ghost use Rattle.stream_model.specs.Producers.{is_producer};
 ghost use Rattle.silo_loops.specs.Lines.{CallsOn, Hears, HearsAt, HasLooked, HasPulled, NeverProduces, is_pull, is_ready, rested};
 
-use crate::doorbell::{Bell, Doorbell};
 use crate::heard::{Heard, heard_of};
+use doorbells::{Bell, Doorbell};
 use shared_partition::{Gate, QueueHistory, SharedPartition};
 use std::alloc::{AllocError, Global};
 use std::marker::Model;

@@ -5,11 +5,11 @@ ghost use Rattle.silo_loops.specs.Chains.{Visits};
 ghost use Rattle.silo_loops.specs.Walks.{Nothing};
 ghost use Rattle.silo_loops.specs.Workers.{IsBeside, WorkerAdvances, WorkerHasCause, WorkerRuns};
 
-use crate::advance::{Advance, MOST_STEPS, Over};
+use crate::advance::{Advance, MOST_STEPS};
 use crate::directory_line::DirectoryLine;
-use crate::doorbell::Doorbell;
 use crate::line::Line;
 use crate::worker_steps::Worker;
+use doorbells::{Doorbell, Over};
 use shared_partition::{DirectoryHistory, Gate, QueueHistory};
 use std::alloc::{AllocError, Global};
 use std::marker::Model;

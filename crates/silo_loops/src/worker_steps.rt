@@ -6,15 +6,14 @@ ghost use Rattle.silo_loops.specs.Walks.{IsFree};
 ghost use Rattle.silo_loops.specs.Workers.{WorkerAdvancesFrom, WorkerAsks, WorkerCalls, WorkerGoesOn, WorkerLooks, WorkerWorks, worker_of};
 ghost use Rattle.silo_loops.specs.declared.worker_walk.Step.TheVariants as step;
 
-use crate::advance::{Advance, Over, told};
-use crate::desk::{count_at, wait_at};
+use crate::advance::{Advance, told};
 use crate::directory_line::DirectoryLine;
-use crate::doorbell::Doorbell;
 use crate::heard::Heard;
 use crate::line::{Line, hear_at, keep_at, leave_at, rest_all};
 use crate::worker::TurnRoom;
 use crate::worker_walk::{Step, Turn, Walk, end_of_asking};
 use activation_directory::DirectoryOp;
+use doorbells::{Doorbell, Over, count_at, wait_at};
 use shared_partition::{DirectoryHistory, Gate, QueueHistory};
 use std::alloc::Global;
 use std::marker::Model;

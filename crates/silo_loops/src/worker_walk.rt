@@ -4,10 +4,10 @@ ghost use Rattle.silo_loops.specs.Answers.{end_of_asking};
 ghost use Rattle.silo_loops.specs.declared.worker_walk.Step.TheVariants as step;
 ghost use Rattle.silo_loops.specs.Walks.{IsFree, step_after_begin, step_after_commit, step_after_enter};
 
-use crate::advance::{Over, end_by};
-use crate::desk::{QueueSet, is_among};
+use crate::advance::end_by;
 use crate::heard::Heard;
 use activation_directory::DirectoryReply;
+use doorbells::{Over, QueueSet, is_among};
 use stream_ident::{GrainId, SubName, Token};
 use turnstile::Refusal;
 

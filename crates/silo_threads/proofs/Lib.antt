@@ -1,12 +1,3 @@
-pub mod Begun
-pub mod Changing
-pub mod GoneOn
-pub mod Looking
-pub mod Making
 pub mod Places
-pub mod Rows
-pub mod Splitting
-pub mod Spreading
 pub mod Standing
-pub mod Tracing
 pub mod Prelude

@@ -1,10 +1,10 @@
 -- A change of silos leaves the turnstiles of the queues.
 use Rattle.silo_threads.proofs.Prelude.{goes-places, places, ◌≡◌, ℕ, Result, Ok, ap, AllocError}
 use Rattle.silo_threads.specs.Clusters.{AnswersDown, AnswersUp, ClusterView}
-use Rattle.silo_threads.specs.declared.clusters.cluster.SiloDown.{SiloDown}
-use Rattle.silo_threads.specs.declared.clusters.cluster.SiloDown.TheVariants as down
-use Rattle.silo_threads.specs.declared.clusters.cluster.SiloUp.{SiloUp}
-use Rattle.silo_threads.specs.declared.clusters.cluster.SiloUp.TheVariants as up
+use Rattle.silo_threads.specs.declared.cluster.SiloDown.{SiloDown}
+use Rattle.silo_threads.specs.declared.cluster.SiloDown.TheVariants as down
+use Rattle.silo_threads.specs.declared.cluster.SiloUp.{SiloUp}
+use Rattle.silo_threads.specs.declared.cluster.SiloUp.TheVariants as up
 
 -- a cluster that is the same has the same turnstiles
 same-places : (v w : ClusterView) → w ≡ v → places w.operator.lines ≡ places v.operator.lines

@@ -5,24 +5,24 @@ use Rattle.std.proofs.lemmas.List.FromFn.{get_or-range_with_len, length-range_wi
 use Rattle.std.specs.List.{slice_get}
 use Rattle.activation_directory.specs.declared.op.DirectoryOp.{DirectoryOp}
 use Rattle.activation_directory.specs.declared.reply.DirectoryReply.{DirectoryReply}
-use Rattle.silo_threads.specs.Calls.{IsUnused, turnstiles}
-use Rattle.silo_threads.specs.declared.ending.ends.LoopEnds.{LoopEnds}
-use Rattle.silo_threads.specs.declared.ending.finishing.Finished.{Finished}
-use Rattle.silo_threads.specs.Finishing.{CallersAloneProduce, HaveBegun, IsFinished, OnHistories}
-use Rattle.silo_threads.specs.Gathering.{AreAt, gathered, passes_of}
+use Rattle.queue_callers.specs.Calls.{IsUnused, turnstiles}
+use Rattle.queue_callers.specs.declared.ends.LoopEnds.{LoopEnds}
+use Rattle.queue_callers.specs.declared.finishing.Finished.{Finished}
+use Rattle.queue_callers.specs.Finishing.{CallersAloneProduce, HaveBegun, IsFinished, OnHistories}
+use Rattle.queue_callers.specs.Gathering.{AreAt, gathered, passes_of}
 use Rattle.stream_ident.proofs.WordLemmas.{All-at}
 use Rattle.silo_loops.proofs.Running.{agent-stays, worker-stays}
-use Rattle.silo_threads.specs.declared.operators.halt.Halt.{Halt}
-use Rattle.silo_threads.specs.declared.operators.halt.Halt.TheVariants as halt
-use Rattle.silo_threads.specs.Changes.{AreDeactivated, HasFound, HasMade, HasSince, HaveMoved, HaveMovedNowhere, HaveStayed, HoldsGrains, IsDeactivation, IsMove, IsNoneLeft, IsRelease, IsSpentMove, StaysBehind, is_move}
-use Rattle.silo_threads.specs.Operators.{HasOnlyGoneOn, HasSpread, IsUnspread, OperatorGoesOn, OperatorView}
-use Rattle.silo_threads.proofs.Changing.{each-earlier, each-later, nowhere-silents, nowhere-trans, op-trans, stayed-earlier}
-use Rattle.silo_threads.proofs.Rows.{all-at, zip-at, zip-both}
-use Rattle.silo_threads.proofs.Splitting.{split-unused}
-use Rattle.silo_threads.proofs.Spreading.{only-refl}
-use Rattle.silo_threads.proofs.Making.{goes-longer, last-earlier, made-earlier, made-since-silent}
+use Rattle.silo_operators.specs.declared.halt.Halt.{Halt}
+use Rattle.silo_operators.specs.declared.halt.Halt.TheVariants as halt
+use Rattle.silo_operators.specs.Changes.{AreDeactivated, HasFound, HasMade, HasSince, HaveMoved, HaveMovedNowhere, HaveStayed, HoldsGrains, IsDeactivation, IsMove, IsNoneLeft, IsRelease, IsSpentMove, StaysBehind, is_move}
+use Rattle.silo_operators.specs.Operators.{HasOnlyGoneOn, HasSpread, IsUnspread, OperatorGoesOn, OperatorView}
+use Rattle.silo_operators.proofs.Changing.{each-earlier, each-later, nowhere-silents, nowhere-trans, op-trans, stayed-earlier}
+use Rattle.silo_operators.proofs.Rows.{all-at, zip-at, zip-both}
+use Rattle.queue_callers.proofs.Splitting.{line-turnstiles, split-unused}
+use Rattle.silo_operators.proofs.Spreading.{only-refl}
+use Rattle.silo_operators.proofs.Making.{goes-longer, last-earlier, made-earlier, made-since-silent}
 use Rattle.silo_threads.specs.Clusters.{AreAtQueues, AreFresh, AreStarted, ClusterView, HasEnded, HasLeft, HasMetLimit, HasNoted, HaveComeBack, HaveEnded, HaveSeenNone, IsAtDirectory, IsCluster, IsEmptied, IsHaltedWith, IsLimitedAt, IsOpened, MayGo, RunsOn, WereLeft, WereMoved, all_noted, is_fixed, none_ended, noted}
-use Rattle.silo_threads.specs.declared.clusters.config.Config.{Config}
+use Rattle.silo_threads.specs.declared.config.Config.{Config}
 
 pub on_ok_both : {A E P Q R : Type 0} → (r : Result A E) → (P → Q → R) → OnOk r P → OnOk r Q → OnOk r R
 on_ok_both (Ok x) f p q = f p q
@@ -220,10 +220,6 @@ all-unused : (ls ms : List LineView) → AllZip IsSplitLine ls ms → AllByRecur
 all-unused [] [] all = tt
 all-unused (l ∷ ls) (m ∷ ms) all = (split-unused l.pass m.pass all.0.0, all-unused ls ms all.1)
 all-unused _ _ all = absurd all
-
-pub line-turnstiles : (ls : List LineView) → turnstiles (map (λ (l : LineView). l.pass) ls) ≡ places ls
-line-turnstiles [] = refl
-line-turnstiles (l ∷ ls) = ap (λ ts. l.pass.turnstile ∷ ts) (line-turnstiles ls)
 
 -- the silo at a place lives there
 pub silo-place : (ss : List SiloView) (live : List ℕ) (place : ℕ) (s : SiloView) → map (λ (x : SiloView). x.silo) ss ≡ live → place < length ss → s ≡ get_or ss place s → slice_get live place ≡ Some s.silo

@@ -17,24 +17,24 @@ use Rattle.turnstile.specs.declared.view.Start.{Start}
 use Rattle.queue_balancer.specs.Balance.{IsBalanced}
 use Rattle.silo_loops.specs.Lines.{DirectoryPass, LineView, QueuePass, places}
 use Rattle.silo_loops.specs.Passes.{OwnsNone}
-use Rattle.silo_threads.specs.Calls.{IsUnused, turnstiles}
+use Rattle.queue_callers.specs.Calls.{IsUnused, turnstiles}
 use Rattle.silo_loops.specs.Silos.{AreSplitOff, AreTakenIn, GoOn, GoesOn, HasRun, HaveCauses, IsFresh, IsSiloAt, SiloView}
-use Rattle.silo_threads.specs.declared.ending.ends.LoopEnds.{LoopEnds}
-use Rattle.silo_threads.specs.declared.ending.finishing.Finished.{Finished}
-use Rattle.silo_threads.specs.Ends.{ends_with}
-use Rattle.silo_threads.specs.Finishing.{CallersAloneProduce, HaveBegun, IsFinished, OnHistories}
-use Rattle.silo_threads.specs.Gathering.{gathered, passes_of}
-use Rattle.silo_threads.specs.declared.operators.halt.Halt.{Halt}
-use Rattle.silo_threads.specs.declared.operators.halt.Halt.TheVariants as halt
-use Rattle.silo_threads.specs.Changes.{AreDeactivated, HasFound, HasMade, HasMadeLast, HasSince, HaveOnlySeen, HaveStayed, IsMove, IsNoneLeft, IsSpentMove, is_move}
-use Rattle.silo_threads.specs.Operators.{HasSpread, OperatorGoesOn, OperatorView}
-use Rattle.silo_threads.specs.declared.clusters.config.Config.{Config}
-use Rattle.silo_threads.specs.declared.clusters.cluster.Retired.{Retired}
-use Rattle.silo_threads.specs.declared.clusters.cluster.Retired.TheVariants as retired
-use Rattle.silo_threads.specs.declared.clusters.cluster.SiloDown.{SiloDown}
-use Rattle.silo_threads.specs.declared.clusters.cluster.SiloDown.TheVariants as down
-use Rattle.silo_threads.specs.declared.clusters.cluster.SiloUp.{SiloUp}
-use Rattle.silo_threads.specs.declared.clusters.cluster.SiloUp.TheVariants as up
+use Rattle.queue_callers.specs.declared.ends.LoopEnds.{LoopEnds}
+use Rattle.queue_callers.specs.declared.finishing.Finished.{Finished}
+use Rattle.queue_callers.specs.Ends.{ends_with}
+use Rattle.queue_callers.specs.Finishing.{CallersAloneProduce, HaveBegun, IsFinished, OnHistories}
+use Rattle.queue_callers.specs.Gathering.{gathered, passes_of}
+use Rattle.silo_operators.specs.declared.halt.Halt.{Halt}
+use Rattle.silo_operators.specs.declared.halt.Halt.TheVariants as halt
+use Rattle.silo_operators.specs.Changes.{AreDeactivated, HasFound, HasMade, HasMadeLast, HasSince, HaveOnlySeen, HaveStayed, IsMove, IsNoneLeft, IsSpentMove, is_move}
+use Rattle.silo_operators.specs.Operators.{HasSpread, OperatorGoesOn, OperatorView}
+use Rattle.silo_threads.specs.declared.config.Config.{Config}
+use Rattle.silo_threads.specs.declared.cluster.Retired.{Retired}
+use Rattle.silo_threads.specs.declared.cluster.Retired.TheVariants as retired
+use Rattle.silo_threads.specs.declared.cluster.SiloDown.{SiloDown}
+use Rattle.silo_threads.specs.declared.cluster.SiloDown.TheVariants as down
+use Rattle.silo_threads.specs.declared.cluster.SiloUp.{SiloUp}
+use Rattle.silo_threads.specs.declared.cluster.SiloUp.TheVariants as up
 
 -- a configuration that a cluster may have
 pub record IsConfig (config : Config) : Type 0 where

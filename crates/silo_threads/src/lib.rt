@@ -5,17 +5,21 @@
 //! [`Operator`] spreads the queues over the silos that live, and takes the grains of a silo that goes. [`drain`] waits
 //! until all queues are quiet, and [`finish`] ends a cluster with a report.
 //!
+//! A parked cluster starts no thread: whoever made it advances the loops by hand, so that a silo can be stopped
+//! between any two of its steps.
+//!
 //! Not claimed: that a call's turn comes, any order between callers that never met, and that a drain ends.
 #![tactic(auto)]
 
-mod callers;
-mod clusters;
-mod ending;
-mod operators;
+mod changes;
+mod cluster;
+mod config;
+mod opening;
 
-pub use callers::{Caller, QueueCaller};
-pub use clusters::{Cluster, Config, Ended, Retired, SiloDown, SiloUp};
-pub use ending::{
-    Closing, Drained, Finished, LoopEnds, Quiet, Traces, ask_quiet, close, drain, finish, gather,
+pub use cluster::{Cluster, Ended, Retired, SiloDown, SiloUp};
+pub use config::Config;
+pub use queue_callers::{
+    Caller, Closing, Drained, Finished, LoopEnds, QueueCaller, Quiet, Traces, ask_quiet, close,
+    drain, finish, gather,
 };
-pub use operators::{Halt, Operator};
+pub use silo_operators::{Halt, Operator};

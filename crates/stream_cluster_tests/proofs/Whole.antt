@@ -10,13 +10,13 @@ use Rattle.queue_balancer.specs.Balance.{HasNoDoubles}
 use Rattle.silo_loops.specs.Lines.{QueuePass}
 use Rattle.silo_loops.specs.Silos.{HasRun, IsSiloAt, SiloView}
 use Rattle.silo_loops.proofs.Going.{goes-places}
-use Rattle.silo_threads.specs.Operators.{OperatorGoesOn}
+use Rattle.silo_operators.specs.Operators.{OperatorGoesOn}
 use Rattle.silo_threads.specs.Clusters.{AnswersRetire, AnswersUp, ClusterView, HasHalted, IsDown, IsNewParked, RunsOn, is_fixed}
-use Rattle.silo_threads.specs.declared.clusters.config.Config.{Config}
-use Rattle.silo_threads.specs.declared.clusters.cluster.Retired.{Retired}
-use Rattle.silo_threads.specs.declared.clusters.cluster.Retired.TheVariants as retired
-use Rattle.silo_threads.specs.declared.clusters.cluster.SiloUp.{SiloUp}
-use Rattle.silo_threads.specs.declared.clusters.cluster.SiloUp.TheVariants as up
+use Rattle.silo_threads.specs.declared.config.Config.{Config}
+use Rattle.silo_threads.specs.declared.cluster.Retired.{Retired}
+use Rattle.silo_threads.specs.declared.cluster.Retired.TheVariants as retired
+use Rattle.silo_threads.specs.declared.cluster.SiloUp.{SiloUp}
+use Rattle.silo_threads.specs.declared.cluster.SiloUp.TheVariants as up
 use Rattle.silo_threads.proofs.Standing.{all-remove, lives-at, map-remove, same-at, silo-place, sits-on}
 use Rattle.stream_cluster_tests.specs.Parked.{IsLeft, IsWhole, silos_of}
 use Rattle.stream_cluster_tests.proofs.Standing.{all-set, insert-remove, insert-removed, one-place, range-once, silos-set}

@@ -3,11 +3,11 @@ use Rattle.std.specs.Prelude.{◌≡◌, ℕ, true, false, List, map, insert, Re
 use Rattle.std.specs.declared.alloc.AllocError.{AllocError}
 use Rattle.queue_balancer.specs.Balance.{HasNoDoubles}
 use Rattle.silo_loops.specs.Lines.{QueuePass, places}
-use Rattle.silo_threads.specs.Calls.{turnstiles}
+use Rattle.queue_callers.specs.Calls.{turnstiles}
 use Rattle.silo_loops.specs.Silos.{SiloView}
 use Rattle.silo_threads.specs.Clusters.{ClusterView, RunsOn}
-use Rattle.silo_threads.specs.declared.clusters.cluster.Retired.{Retired}
-use Rattle.silo_threads.specs.declared.clusters.cluster.Retired.TheVariants as retired
+use Rattle.silo_threads.specs.declared.cluster.Retired.{Retired}
+use Rattle.silo_threads.specs.declared.cluster.Retired.TheVariants as retired
 
 -- the silos of these loops, in their order
 abbrev pub silos_of : List SiloView → List ℕ

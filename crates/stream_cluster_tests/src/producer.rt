@@ -1,6 +1,6 @@
 //! A caller in a thread, and what it was told.
 ghost use Rattle.std.specs.Prelude.{◌≡◌, IfOk};
-ghost use Rattle.silo_threads.specs.Calls.{turnstiles};
+ghost use Rattle.queue_callers.specs.Calls.{turnstiles};
 
 use crate::asking::{Produced, production};
 use crate::told::Told;
@@ -28,7 +28,7 @@ impl<G: Gate + Drop, H: QueueHistory + Drop> Drop for Producer<G, H> {
 impl<G: Gate, H: QueueHistory> Model for Producer<G, H> {
     ghost use Rattle.std.specs.Prelude.{List, Option};
     ghost use Rattle.stream_model.specs.declared.plain.PlainPartition.{PlainPartition};
-    ghost use Rattle.silo_threads.specs.Calls.{turnstiles};
+    ghost use Rattle.queue_callers.specs.Calls.{turnstiles};
     ghost use Rattle.turnstile.specs.Passes.{Origin};
 
     ghost Value = { List (Option (Origin PlainPartition)) };

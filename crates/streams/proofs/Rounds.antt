@@ -1,8 +1,8 @@
 -- Rounds that follow one another.
 use Rattle.streams.proofs.Prelude.{◌≡◌, ℕ, suc, ◌+◌, ◌-◌, ◌<◌, Result, Ok, refl, subst, arith}
 use Rattle.std.specs.declared.alloc.AllocError.{AllocError}
-use Rattle.silo_threads.specs.declared.ending.draining.Drained.{Drained}
-use Rattle.silo_threads.specs.declared.ending.draining.Drained.TheVariants as drained
+use Rattle.queue_callers.specs.declared.draining.Drained.{Drained}
+use Rattle.queue_callers.specs.declared.draining.Drained.TheVariants as drained
 use Rattle.streams.specs.Answers as read
 
 -- a round is left

@@ -19,15 +19,15 @@ use Rattle.step_core.specs.declared.figures.QueueFigures.{QueueFigures}
 use Rattle.step_core.specs.declared.figures.SubscriptionFigures.{SubscriptionFigures}
 use Rattle.step_core.specs.Figures.{figures_of, subscription_figures_of}
 use Rattle.silo_loops.specs.Lines.{QueuePass}
-use Rattle.silo_threads.specs.Calls.{CallerLooks}
-use Rattle.silo_threads.specs.declared.ending.finishing.Finished.{Finished}
-use Rattle.silo_threads.specs.declared.ending.finishing.Finished.TheVariants as finished
-use Rattle.silo_threads.specs.declared.ending.draining.Drained.{Drained}
-use Rattle.silo_threads.specs.declared.ending.draining.Drained.TheVariants as drained
-use Rattle.silo_threads.specs.declared.clusters.cluster.SiloDown.{SiloDown}
-use Rattle.silo_threads.specs.declared.clusters.cluster.SiloDown.TheVariants as down
-use Rattle.silo_threads.specs.declared.clusters.cluster.SiloUp.{SiloUp}
-use Rattle.silo_threads.specs.declared.clusters.cluster.SiloUp.TheVariants as up
+use Rattle.queue_callers.specs.Calls.{CallerLooks}
+use Rattle.queue_callers.specs.declared.finishing.Finished.{Finished}
+use Rattle.queue_callers.specs.declared.finishing.Finished.TheVariants as finished
+use Rattle.queue_callers.specs.declared.draining.Drained.{Drained}
+use Rattle.queue_callers.specs.declared.draining.Drained.TheVariants as drained
+use Rattle.silo_threads.specs.declared.cluster.SiloDown.{SiloDown}
+use Rattle.silo_threads.specs.declared.cluster.SiloDown.TheVariants as down
+use Rattle.silo_threads.specs.declared.cluster.SiloUp.{SiloUp}
+use Rattle.silo_threads.specs.declared.cluster.SiloUp.TheVariants as up
 use Rattle.streams.specs.declared.answers.CallError.{CallError}
 use Rattle.streams.specs.declared.answers.CallError.TheVariants as call
 use Rattle.streams.specs.declared.answers.CloseError.{CloseError}

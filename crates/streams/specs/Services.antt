@@ -18,16 +18,16 @@ use Rattle.turnstile.specs.declared.history.Entry.{Entry}
 use Rattle.turnstile.specs.declared.recorded.ProofHistory.{ProofHistory}
 use Rattle.turnstile.specs.declared.turnstile.Refusal.{Refusal}
 use Rattle.turnstile.specs.Recorded.{answered, recorded}
-use Rattle.silo_loops.specs.declared.advance.LoopEnd.{LoopEnd}
+use Rattle.doorbells.specs.declared.loop_end.LoopEnd.{LoopEnd}
 use Rattle.silo_loops.specs.Lines.{QueuePass, places}
 use Rattle.step_core.specs.declared.figures.QueueFigures.{QueueFigures}
 use Rattle.step_core.specs.declared.figures.SubscriptionFigures.{SubscriptionFigures}
 use Rattle.step_core.specs.Figures.{figures_of, subscription_figures_of}
-use Rattle.silo_threads.specs.Calls.{CallerCalls, CallerLooks, turnstiles}
-use Rattle.silo_threads.specs.declared.ending.finishing.Finished.{Finished}
-use Rattle.silo_threads.specs.declared.clusters.cluster.SiloDown.{SiloDown}
-use Rattle.silo_threads.specs.declared.clusters.cluster.SiloUp.{SiloUp}
-use Rattle.silo_threads.specs.declared.clusters.config.Config.{Config}
+use Rattle.queue_callers.specs.Calls.{CallerCalls, CallerLooks, turnstiles}
+use Rattle.queue_callers.specs.declared.finishing.Finished.{Finished}
+use Rattle.silo_threads.specs.declared.cluster.SiloDown.{SiloDown}
+use Rattle.silo_threads.specs.declared.cluster.SiloUp.{SiloUp}
+use Rattle.silo_threads.specs.declared.config.Config.{Config}
 use Rattle.silo_loops.specs.Silos.{SiloView}
 use Rattle.silo_threads.specs.Clusters.{AnswersDown, AnswersUp, ClusterView, HasFinished, IsNew}
 use Rattle.streams.specs.declared.answers.CallError.{CallError}

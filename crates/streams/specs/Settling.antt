@@ -4,10 +4,10 @@ use Rattle.std.specs.declared.alloc.AllocError.{AllocError}
 use Rattle.silo_loops.specs.Lines.{QueuePass}
 use Rattle.step_core.specs.declared.figures.QueueFigures.{QueueFigures}
 use Rattle.step_core.specs.Figures.{figures_of}
-use Rattle.silo_threads.specs.Calls.{CallerLooks}
-use Rattle.silo_threads.specs.declared.ending.draining.Drained.{Drained}
-use Rattle.silo_threads.specs.declared.ending.draining.Drained.TheVariants as drained
-use Rattle.silo_threads.specs.Draining.{EndsLooking}
+use Rattle.queue_callers.specs.Calls.{CallerLooks}
+use Rattle.queue_callers.specs.declared.draining.Drained.{Drained}
+use Rattle.queue_callers.specs.declared.draining.Drained.TheVariants as drained
+use Rattle.queue_callers.specs.Draining.{EndsLooking}
 use Rattle.streams.specs.declared.answers.SettleError.{SettleError}
 use Rattle.streams.specs.declared.answers.SettleError.TheVariants as settle
 use Rattle.streams.specs.declared.answers.StreamToken.{StreamToken}

@@ -1,6 +1,6 @@
 //! What the calls of a service answer, and how that is read from the replies of a queue and of a cluster.
 ghost use Rattle.std.specs.Prelude.{◌≡◌, ◌<◌, length};
-ghost use Rattle.silo_threads.specs.Calls.{turnstiles};
+ghost use Rattle.queue_callers.specs.Calls.{turnstiles};
 ghost use Rattle.streams.specs.Answers as read;
 ghost use Rattle.streams.specs.Answers.{ComesTo, IsGone, IsLeft, full, too_many};
 

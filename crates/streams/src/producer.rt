@@ -1,6 +1,6 @@
 //! What publishes to the streams of a service beside it.
 ghost use Rattle.std.specs.Prelude.{◌≡◌, ◌<◌, ◌≤◌, length};
-ghost use Rattle.silo_threads.specs.Calls.{CallerCalls, turnstiles};
+ghost use Rattle.queue_callers.specs.Calls.{CallerCalls, turnstiles};
 ghost use Rattle.streams.specs.Services.{Publishes};
 
 use crate::UntracedCaller;

@@ -1,7 +1,7 @@
 //! A cluster with its first caller, as a service uses it.
 ghost use Rattle.std.specs.Prelude.{◌≡◌, ◌<◌, ◌≤◌, length, IfOk};
 ghost use Rattle.silo_threads.specs.Clusters.{IsConfig};
-ghost use Rattle.silo_threads.specs.Calls.{CallerCalls, CallerSplits, JoinsAll, joined_passes, turnstiles};
+ghost use Rattle.queue_callers.specs.Calls.{CallerCalls, CallerSplits, JoinsAll, joined_passes, turnstiles};
 ghost use Rattle.streams.specs.Answers.{checked_token};
 ghost use Rattle.streams.specs.Services.{AddsRule, AsksPending, ChangesDown, ChangesUp, Closes, IsNewService, IsProducerOf, Publishes, ReadsQueue, ReadsSubscription, SeesNext, Subscribes, Unsubscribes, queue_of};
 ghost use Rattle.streams.specs.Settling.{PublishesFrom, Settles, SettlesWith};

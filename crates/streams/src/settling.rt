@@ -1,6 +1,6 @@
 //! Waiting until everything that was published is handled.
 ghost use Rattle.std.specs.Prelude.{◌≡◌};
-ghost use Rattle.silo_threads.specs.Calls.{turnstiles};
+ghost use Rattle.queue_callers.specs.Calls.{turnstiles};
 ghost use Rattle.streams.specs.Settling.{CountsAll, Settles};
 
 use crate::UntracedCaller;

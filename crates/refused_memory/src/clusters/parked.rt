@@ -1,7 +1,7 @@
 //! A parked cluster, whose operator takes back the loops of a silo. It starts no thread.
 ghost use Rattle.std.specs.Prelude.{◌≡◌, ◌<◌, length, map, true};
 ghost use Rattle.std.specs.List.{AllByRecursion};
-ghost use Rattle.silo_threads.specs.Gathering.{AreAt};
+ghost use Rattle.queue_callers.specs.Gathering.{AreAt};
 ghost use Rattle.silo_loops.specs.Silos.{SiloView};
 ghost use Rattle.silo_loops.specs.Lines.{places};
 ghost use Rattle.silo_threads.specs.Clusters.{RunsOn};

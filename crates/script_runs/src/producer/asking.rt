@@ -2,8 +2,8 @@
 ghost use Rattle.std.specs.Prelude.{◌≡◌, ◌<◌, ◌≤◌, length, true, IfOk};
 ghost use Rattle.std.specs.List.{AllZip};
 ghost use Rattle.stream_model.specs.Producers.{is_producer};
-ghost use Rattle.silo_threads.specs.Calls.{turnstiles};
-ghost use Rattle.silo_threads.specs.Draining.{HasGoneOn};
+ghost use Rattle.queue_callers.specs.Calls.{turnstiles};
+ghost use Rattle.queue_callers.specs.Draining.{HasGoneOn};
 ghost use Rattle.stream_script.specs.declared.parser.command.Command.TheVariants as command;
 ghost use Rattle.stream_script.specs.Forms.{op_of};
 ghost use Rattle.script_runs.specs.Telling.{AsksEachOnce, AsksOnce, EndsAsking, TellsUnlessLimit};

@@ -1,8 +1,8 @@
 //! One line of a script.
 ghost use Rattle.std.specs.Prelude.{◌≡◌, ◌≤◌, length, IfErr, OnOk};
 ghost use Rattle.std.specs.List.{AllZip};
-ghost use Rattle.silo_threads.specs.Calls.{turnstiles};
-ghost use Rattle.silo_threads.specs.Draining.{HasGoneOn, LooksQuiet};
+ghost use Rattle.queue_callers.specs.Calls.{turnstiles};
+ghost use Rattle.queue_callers.specs.Draining.{HasGoneOn, LooksQuiet};
 ghost use Rattle.stream_script.specs.declared.parser.command.Command.TheVariants as command;
 ghost use Rattle.script_runs.specs.declared.producer.answer.Answer.TheVariants as answer;
 ghost use Rattle.script_runs.specs.Telling.{Tells};

@@ -1,9 +1,9 @@
 //! A script on a cluster that is there.
 ghost use Rattle.std.specs.Prelude.{◌≡◌, ◌++◌, ◌≤◌, [], false, length, IfErr, IfOk, OnErr, OnOk};
 ghost use Rattle.std.specs.List.{AllZip};
-ghost use Rattle.silo_threads.specs.Calls.{turnstiles};
-ghost use Rattle.silo_threads.specs.Operators.{OperatorGoesOn};
-ghost use Rattle.silo_threads.specs.Draining.{HasGoneOn};
+ghost use Rattle.queue_callers.specs.Calls.{turnstiles};
+ghost use Rattle.silo_operators.specs.Operators.{OperatorGoesOn};
+ghost use Rattle.queue_callers.specs.Draining.{HasGoneOn};
 ghost use Rattle.script_runs.specs.Telling.{printed_lines};
 ghost use Rattle.script_runs.specs.Scripts.{IsScript};
 ghost use Rattle.silo_threads.specs.Clusters.{is_fixed};

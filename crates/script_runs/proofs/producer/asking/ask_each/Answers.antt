@@ -2,7 +2,7 @@ use Rattle.script_runs.proofs.Prelude.{◌≡◌, ◌≢◌, ◌≤◌, ◌∙�
 use Rattle.script_runs.specs.declared.producer.answer.Answer.TheVariants as answer
 use Rattle.script_runs.specs.declared.producer.answer.Answer.{Answer}
 use Rattle.script_runs.specs.Telling.{AsksOnce}
-use Rattle.silo_threads.proofs.Looking.{turnstiles-length}
+use Rattle.queue_callers.proofs.Looking.{turnstiles-length}
 use Rattle.script_runs.proofs.Asked.{IsFirstAfter, before-on, each-next, each-on, each-tells, last-asked, once-ends, once-free, once-refused}
 use Rattle.script_runs.proofs.producer.asking.ask_each.Goals as goal
 use Rattle.script_runs.proofs.producer.asking.ask_each.Goals.{then-queue-eq0, else-queue-eq0}

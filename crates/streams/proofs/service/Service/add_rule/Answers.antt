@@ -1,5 +1,5 @@
 use Rattle.streams.proofs.Prelude.{ℕ, ◌+◌, ◌-◌, ◌<◌, ◌||◌, ◌∙◌, Err, add-one, arith, inl, inr, length, refl, subst, err_from_is_err_and, AddRule}
-use Rattle.silo_threads.proofs.Looking.{turnstiles-length}
+use Rattle.queue_callers.proofs.Looking.{turnstiles-length}
 use Rattle.streams.specs.Services.{TellsRule}
 use Rattle.streams.proofs.Rounds.{one-more}
 use Rattle.streams.proofs.service.Service.add_rule.Goals as goal

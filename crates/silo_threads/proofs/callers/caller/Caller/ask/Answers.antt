@@ -1,7 +1,0 @@
-use Rattle.silo_threads.proofs.Splitting.{turnstiles-set}
-use Rattle.silo_threads.proofs.callers.caller.Caller.ask.Goals as goal
-
-pub returns-clause-turnstiles : goal.returns-clause-turnstiles
-returns-clause-turnstiles g c =
-    let one = c.ask_at.ensures.calls in
-    turnstiles-set _ _ _ _ _ _ c.self.view_is one.had one.whole one.calls.calls.only

@@ -1,6 +1,0 @@
-use Rattle.silo_threads.proofs.Prelude.{Err, subst, Refusal}
-use Rattle.silo_threads.specs.Asking.{AsksQuiet}
-use Rattle.silo_threads.proofs.ending.finishing.ask.Goals as goal
-
-pub returns-in-Err-HistoryFull : goal.returns-in-Err-HistoryFull
-returns-in-Err-HistoryFull g c = subst (λ (e : Refusal). AsksQuiet c.args.caller.now (Err e) c.ask_quiet.new.caller) c.in-Err-HistoryFull.field-0-is c.in-Err-HistoryFull.ensures.asks
