@@ -1,7 +1,7 @@
 //! The doorbell that loops wait at, and the hints that it has for them.
 use crate::desk::{Desk, QueueSet, flags, set};
 use crate::loop_end::LoopEnd;
-use crate::rings::rings;
+use crate::ringing::rings;
 use activation_directory::DirectoryReply;
 use std::alloc::{AllocError, Global};
 use std::sync::atomic::{AtomicBool, AtomicU64, Ordering};

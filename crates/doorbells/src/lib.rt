@@ -11,10 +11,10 @@ mod assigned;
 mod desk;
 mod doorbell;
 mod loop_end;
-mod rings;
+mod ringing;
 
 pub use assigned::Assigned;
 pub use desk::{Desk, QueueSet, count_at, is_among, wait_at};
 pub use doorbell::{Bell, Doorbell};
 pub use loop_end::{LoopEnd, Over};
-pub use rings::{directory_rings, rings};
+pub use ringing::{directory_rings, rings};
