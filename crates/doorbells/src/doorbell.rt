@@ -232,11 +232,12 @@ impl Doorbell {
         }
     }
 
-    /// The desk of a silo's agent, and that of its workers.
+    /// The desk of a silo's agent, where there is such a silo.
     pub fn agent(&self, silo: u8) -> Option<&Desk> {
         self.agents.get(usize::from(silo))
     }
 
+    /// The desk of a silo's workers, where there is such a silo.
     pub fn workers(&self, silo: u8) -> Option<&Desk> {
         self.workers.get(usize::from(silo))
     }
@@ -314,13 +315,14 @@ impl Doorbell {
         }
     }
 
-    /// A worker of the silo begins to handle the events of a turn, or has handled them.
+    /// A worker of the silo begins to handle the events of a turn.
     pub fn begin_handling(&self, silo: u8) {
         if let Some(desk) = self.workers(silo) {
             desk.begin();
         }
     }
 
+    /// A worker of the silo has handled the events of a turn.
     pub fn end_handling(&self, silo: u8) {
         if let Some(desk) = self.workers(silo) {
             desk.end();
