@@ -8,7 +8,7 @@ use Rattle.stream_model.specs.declared.reply.Reply.TheVariants.{DueSub}
 use Rattle.turnstile.specs.declared.turnstile.Refusal.{Refusal}
 use Rattle.silo_loops.specs.declared.advance.Advance.{Advance}
 use Rattle.silo_loops.specs.declared.advance.Advance.TheVariants as advance
-use Rattle.silo_loops.specs.declared.advance.Over as why
+use Rattle.doorbells.specs.declared.loop_end.Over as why
 use Rattle.doorbells.specs.declared.loop_end.Over.TheVariants as over
 use Rattle.silo_loops.specs.Answers.{end_of}
 use Rattle.silo_loops.specs.Lines.{CallsAt, HasPulled, LineIsAtLimit, LineView, QueuePass, places, rested}

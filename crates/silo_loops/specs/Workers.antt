@@ -14,7 +14,7 @@ use Rattle.activation_directory.specs.declared.reply.DirectoryReply.{DirectoryRe
 use Rattle.turnstile.specs.declared.turnstile.Refusal.{Refusal}
 use Rattle.silo_loops.specs.declared.advance.Advance.{Advance}
 use Rattle.silo_loops.specs.declared.advance.Advance.TheVariants as advance
-use Rattle.silo_loops.specs.declared.advance.Over as why
+use Rattle.doorbells.specs.declared.loop_end.Over as why
 use Rattle.doorbells.specs.declared.loop_end.Over.TheVariants as over
 use Rattle.silo_loops.specs.Answers.{end_of, end_of_asking}
 use Rattle.silo_loops.specs.Lines.{CallsAt, DirectoryCalls, DirectoryPass, HasLooked, LineIsAtLimit, LineView, QueuePass, is_ready, places, rested}
